@@ -118,7 +118,7 @@ def users():
         ("alarms-feed", [16]),
         ("alarms-clock", [17]),
         ("alarms-metrics", range(16)),
-        ("alarms-list", range(16)),
+        ("alarms-list", [12]),
     ):
         for slot in range(18):
             check(may_connect(name, slot) == (slot in slots), name, "at slot", slot)

@@ -20,6 +20,7 @@ import sys
 import threading
 import time
 
+from alarms.await_server import let
 from lib.calls import read_calls
 from lib.places import AT_TOOLS, EXAMPLES, TOOLS
 from lib.program import PLANT, Wrong, as_user, begin, check, finish, free_ports, preload, run_words
@@ -292,7 +293,7 @@ class Sockets:
         for words in (["--sockets", folder], ["--port", str(free_ports())]):
             with self.served(*words, device=self.new_device(f"tool{len(printed)}.device")):
                 for script, more in (
-                    (TOOLS / "alm_await_server", ["--groups", group, group, group]),
+                    (TOOLS / "alm_await_server", ["--groups", group, group, group, "--let", "nobody", "12"]),
                     (EXAMPLES / "client.py", []),
                 ):
                     run = subprocess.run(
@@ -343,6 +344,11 @@ class Sockets:
                         "" if may else "was served",
                     )
                     self.done += 1
+            let(own, STRANGER, 12)
+            opened = [slot for slot in SLOTS if self.may_connect(own, slot, STRANGER, STRANGER, [])]
+            check(opened == [12], "a user who is let in at slot 12 opens", opened)
+            check(self.may_connect(own, 12, MEMBER, MEMBER, [GROUP]), "the group no longer opens slot 12")
+            self.done += 1
         foreign = self.new_folder("foreign")
         run = subprocess.run(
             [self.program, "serve", device, "--sockets", foreign],

@@ -24,8 +24,16 @@ STOPPED = "--stopped"
 OPEN = "the plant's end wasn't seen"
 
 
-# The tables and the view of an archive of format 1 that are others now. SQLite's have no number of their own.
+# Makes an archive one of format 2, and then of format 1: the tables and the view that are others now. SQLite's have no
+# number of their own.
 WITHOUT = "WITHOUT ROWID"
+
+
+FORMAT_2 = """
+DROP TABLE denied;
+DROP TABLE state;
+UPDATE about SET format = 2;
+"""
 
 
 FORMAT_1 = """

@@ -39,6 +39,7 @@ BOUNDS: dict[str, tuple[Optional[float], Optional[float]]] = {
     "shelved alarms, mean": (30, None),
     "actions missing in gaps": (0, None),
     "gaps without a known end": (0, None),
+    "alarms whose row the server denied": (0, None),
 }
 # Those that hold of any number of areas.
 OF_ALL = {
@@ -47,6 +48,7 @@ OF_ALL = {
     "alarms that were fleeting",
     "actions missing in gaps",
     "gaps without a known end",
+    "alarms whose row the server denied",
 }
 
 

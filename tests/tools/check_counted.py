@@ -6,7 +6,7 @@ import sqlite3
 import subprocess
 from archives import postgresql, python_with
 from alarms.client import CLOCK, FEED, Client
-from archive_site import FORMAT_1, OPEN, PAGES, STOPPED, Site, WITHOUT, page_block, write_new_table
+from archive_site import FORMAT_1, FORMAT_2, OPEN, PAGES, STOPPED, Site, WITHOUT, page_block, write_new_table
 from lib.program import check
 from slow_count import is_annunciation, replay
 from alarms.table_file import Table
@@ -15,7 +15,7 @@ from lib.tools import Yard
 
 def counted_once(yard: Yard, _count: int) -> str:
     """The page's query, the list and the report count each annunciation once, though a change of the table brought
-    states; so they do over an archive of format 1."""
+    states; so they do over an archive of formats 1 and 2, and once it is brought to the newest."""
     return judge_counting(Site(yard, 92))
 
 
@@ -34,22 +34,31 @@ def judge_counting(site: Site) -> str:
     ((brought,),) = site.rows("SELECT counted FROM plant WHERE plant = 2")
     check(brought > 0, "nothing was brought")
     judge_counts(site, count)
-    make_old(site)
+    for older in (FORMAT_2, FORMAT_1):
+        make_old(site, older)
+        judge_counts(site, count, has_view=older == FORMAT_2)
     check(
         site.rows("SELECT COUNT(*) FROM history WHERE annunciated = 1")[0][0] > count,
         "an archive of format 1 counts no more",
     )
-    judge_counts(site, count, has_view=False)
+    renewed(site, brought)
+    make_old(site, FORMAT_2)
+    renewed(site, brought)
+    judge_counts(site, count)
+    return f"{count} annunciations, {brought} brought actions"
+
+
+def renewed(site: Site, brought: int) -> None:
+    """An archiver brings an archive to the newest format."""
     site.server = site.yard.serve(site.device, site.port)
     site.archive()
     site.stop()
     check(
         site.rows("SELECT counted FROM plant WHERE plant = 2") == [(brought,)]
-        and site.rows("SELECT format FROM about") == [(2,)],
+        and site.rows("SELECT format FROM about") == [(3,)]
+        and site.rows("SELECT COUNT(*) FROM denied") == [(0,)],
         "another count",
     )
-    judge_counts(site, count)
-    return f"{count} annunciations, {brought} brought actions"
 
 
 def changed_plants(site: Site) -> int:
@@ -83,19 +92,19 @@ def changed_plants(site: Site) -> int:
     return count + 1
 
 
-def make_old(site: Site) -> None:
-    """Makes an archive one of format 1."""
+def make_old(site: Site, script: str) -> None:
+    """Makes an archive one of an earlier format, from the one behind it."""
     if not site.database.endswith(".sqlite"):
         run = subprocess.run(
             ["psql", "-X", "-q", "-v", "ON_ERROR_STOP=1", site.database],
-            input=FORMAT_1.replace(WITHOUT, ""),
+            input=script.replace(WITHOUT, ""),
             capture_output=True,
             text=True,
             timeout=60,
         )
         return check(run.returncode == 0, run.stderr)
     with contextlib.closing(sqlite3.connect(site.database)) as connection:
-        connection.executescript(FORMAT_1)
+        connection.executescript(script)
 
 
 def bring_up(site: Site) -> None:

@@ -1,6 +1,7 @@
 """An archive by the server's lines alone. tests/tools/history.py runs this."""
 import os
 import random
+import shutil
 import signal
 import subprocess
 
@@ -11,6 +12,7 @@ from check_since import act
 from lib.drawn_plants import CONSOLE, Hand, draw_plant, module, new_device
 from lib.places import AT_TOOLS
 from lib.program import check
+from lib.server import Server
 from lib.tools import Yard, await_said, await_true, started
 from slow_count import change_rows, replay
 
@@ -82,6 +84,86 @@ def by_lines(yard: Yard, count: int) -> str:
     return f"{total} actions by lines, a gap of {missed - total}"
 
 
+def once(database: str, port: int) -> str:
+    """Archives what is there, without a device; what that says."""
+    run = run_tool("archive", "run", database, "--port", port, "--name", "plant", "--once")
+    check(run.returncode == 0, "alm_archive run:", run.stdout, run.stderr)
+    return run.stderr
+
+
+def restarts(yard: Yard, count: int) -> str:
+    """An archiver without the device that is killed goes on where it was: with what the server remembers, by the state
+    that it kept and by what it archived since. Nothing is missing, and nothing there twice."""
+    dice = random.Random(6)
+    table = draw_plant(dice, 10, 2, 400_000)
+    device, database = new_device(yard, "restarts", table), yard.path("restarts.sqlite")
+    server, hand = yard.serve(device), Hand(dice, table)
+    turns = 3 * max(2, count // 2000)
+    for turn in range(turns):
+        running = archiver(database, server.port)
+        if turn == 0:
+            await_said(running, "a new archive\n")
+        hand.connect(server)
+        hand.ask(60)
+        if turn % 3 != 1:
+            await_true("all of them", lambda: last_archived(database) == len(hand.accepted))
+        running.kill()
+        running.communicate()
+        if turn % 3 == 2:  # the server has seen nothing of what comes before its start
+            hand.leave()
+            server.end()
+            server = yard.serve(device, server.port)
+            hand.connect(server)
+        hand.ask(40)
+        hand.leave()
+    said = once(database, server.port)
+    check(said == "", "it says", said)
+    check(rows_of(database, GAPS, 1) == [], "gaps", rows_of(database, GAPS, 1))
+    check(rows_of(database, "SELECT COUNT(*) FROM plant") == [(1,)], "more plants than one")
+    is_exact(yard, table, database, hand)
+    server, copy = forgotten(yard, server, device, database, hand)
+    another(yard, server, device, copy, database, hand)
+    return f"{len(hand.accepted)} actions over {turns} kills of an archiver by lines"
+
+
+def forgotten(yard: Yard, server: Server, device: str, database: str, hand: Hand) -> tuple[Server, str]:
+    """What the server no longer remembers is a gap, and nothing else is. A copy of the device has all up to there."""
+    last = len(hand.accepted)
+    hand.connect(server)
+    hand.ask(30)
+    hand.leave()
+    server.end()
+    missed, copy = len(hand.accepted), shutil.copyfile(device, yard.path("copy.device"))
+    server = yard.serve(device, server.port)
+    said = once(database, server.port)
+    check(f"actions {last + 1} to {missed} of plant: " in said and said.count("\n") == 1, "of a gap it says", said)
+    check([row[:2] for row in rows_of(database, GAPS, 1)] == [(last + 1, missed)], rows_of(database, GAPS, 1))
+    hand.connect(server)
+    hand.ask(50)
+    hand.leave()
+    check(once(database, server.port) == "", "behind a gap it doesn't go on")
+    check(last_archived(database) == len(hand.accepted) > missed, last_archived(database), len(hand.accepted))
+    return server, copy
+
+
+def another(yard: Yard, server: Server, device: str, copy: str, database: str, hand: Hand) -> None:
+    """An older copy that is put in the device's place, and has more actions by then, is another plant."""
+    before = rows_of(database, ACTIONS, 1)
+    server.end()
+    os.replace(copy, device)
+    server = yard.serve(device, server.port)
+    other = Hand(hand.dice, hand.table, hand.moment)
+    other.connect(server)
+    while other.count() < before[-1][0] + 20:
+        other.ask(40)
+    said = once(database, server.port)
+    check("its actions aren't those that were archived" in said, "of a copy it says", said)
+    check(rows_of(database, ACTIONS, 1) == before, "the plant before has others")
+    check(rows_of(database, GAPS, 2)[0][:2] == (1, other.count()), "of the copy is missing", rows_of(database, GAPS, 2))
+    other.leave()
+    server.end()
+
+
 def other_plant(yard: Yard, device: str, database: str, port: int) -> None:
     """Another table in the device's place."""
     os.replace(yard.format("other.device", PLANT), device)
@@ -96,4 +178,37 @@ def other_plant(yard: Yard, device: str, database: str, port: int) -> None:
     server.end()
 
 
-CHECKS = {"by_lines": by_lines}
+def restored(yard: Yard, _count: int) -> str:
+    """An older copy that is restored while an archiver runs, and has more actions by the time it looks again, is
+    another plant."""
+    dice = random.Random(9)
+    table = draw_plant(dice, 6, 1, 400_000)
+    device, database = new_device(yard, "restored", table), yard.path("restored.sqlite")
+    copy, hand = shutil.copyfile(device, yard.path("copy.device")), Hand(dice, table)
+    server = yard.serve(device)
+    running = archiver(database, server.port)
+    await_said(running, "a new archive\n")
+    hand.connect(server)
+    hand.ask(60)
+    await_true("all of them", lambda: last_archived(database) == len(hand.accepted))
+    before = rows_of(database, ACTIONS, 1)
+    running.send_signal(signal.SIGSTOP)
+    hand.leave()
+    server.end()
+    os.replace(copy, device)
+    server = yard.serve(device, server.port)
+    other = Hand(dice, table, hand.moment)
+    other.connect(server)
+    while other.count() < len(hand.accepted) + 20:
+        other.ask(20)
+    running.send_signal(signal.SIGCONT)
+    await_true("another plant", lambda: rows_of(database, "SELECT COUNT(*) FROM plant") == [(2,)])
+    check(rows_of(database, ACTIONS, 1) == before, "the plant before has others", rows_of(database, ACTIONS, 1)[-3:])
+    running.kill()
+    running.communicate()
+    other.leave()
+    server.end()
+    return "a restored copy"
+
+
+CHECKS = {"by_lines": by_lines, "restarts": restarts, "restored": restored}

@@ -200,6 +200,8 @@ tests:
       - {series: 'alarms_area_flooded{area="0"}', values: '1x39 stale _x118 0x90 stale _x150'}
       - {series: 'alarms_device_damaged{half="1",at="4100"}', values: '0x339 1x19 0x40'}
       - {series: 'alarms_rows_denied', values: '0x359 3x19 0x20'}
+      - {series: 'up{job="alarms-archive"}', values: '1x384 0x15'}
+      - {series: 'alarms_archive_rows_denied', values: '0x319 2x15 0x60'}
       - {series: 'up{job="alarms-feed"}', values: '1x199 0x19 1x180'}
       - {series: 'alarms_feed_connected', values: '1x219 0x19 1x160'}
       - {series: 'alarms_feed_last_value_timestamp_seconds', values: '0+15x239 3585x19 3900+15x139'}
@@ -219,6 +221,8 @@ ALERTS = {
     "AlarmMetricsGone": "job: alarms",
     "AlarmDeviceDamaged": 'half: "1", at: "4100"',
     "AlarmRowsDenied": "",
+    "AlarmArchiveGone": "job: alarms-archive",
+    "AlarmArchiveDenied": "",
     "AlarmFeedGone": "job: alarms-feed",
     "AlarmFeedStill": "",
     "AlarmFeedWithoutServer": "",
@@ -236,11 +240,11 @@ FIRING = {
     "68m": "AlarmSlotTaken",
     "71m": "AlarmSlotTaken AlarmFeedSourcesSilent",
     "79m": "AlarmSlotTaken",
-    "82m": "AlarmSlotTaken AlarmFeedBadValues",
+    "82m": "AlarmSlotTaken AlarmFeedBadValues AlarmArchiveDenied",
     "87m": "AlarmSlotTaken AlarmFeedBadValues AlarmDeviceDamaged",
     "92m": "AlarmSlotTaken AlarmFeedBadValues AlarmRowsDenied",
     "96m": "AlarmSlotTaken AlarmClockStill",
-    "99m": "AlarmSlotTaken AlarmClockStill AlarmMetricsGone",
+    "99m": "AlarmSlotTaken AlarmClockStill AlarmMetricsGone AlarmArchiveGone",
 }
 
 

@@ -24,6 +24,7 @@ from lib.program import Wrong, begin, finish
 
 PARTS = (
     "check_archive",
+    "check_archived_rows",
     "check_askers",
     "check_followed",
     "check_line_archive",

@@ -355,6 +355,7 @@ class SlowCount:
             len(self.attributes()),
             0,
             0,
+            0,
         ]
 
     def tables(self) -> dict[str, list[tuple]]:
@@ -374,4 +375,5 @@ class SlowCount:
             "suppressions": self.suppressions(),
             "suppressed": self.suppressed(),
             "gaps": [],
+            "denied": [],
         }

@@ -18,8 +18,12 @@ changed, or an older copy of the device was put in its place, the archive goes o
 Which slot asked for an action is archived too, as long as the server remembers it (SINCE): 65,536 actions, and none of
 before its start.
 
-Without DEVICE it asks the server alone, from the rows as they are on. What happened while it was off, or just before
-the server ended, is a gap then, and floods begin and end at the look that sees them.
+Without DEVICE it asks the server alone, and begins with the rows as they are. After a pause it goes on with what the
+server remembers. What it no longer does is a gap, as what came just before it ended. Floods begin and end at the look
+that sees them.
+
+What each action did is computed. So once an hour, where a plant begins and behind each gap, each row is held against
+what the server shows (ROW). What differs is logged, and told by reports and by a page of metrics, --metrics PORT.
 
 With --once it archives what is there and ends. With --seconds S it ends after S seconds. With --stopped, before a
 stopped device is put aside, nothing of it is missing; else the archive has a gap with an open end where the next plant
@@ -33,12 +37,13 @@ import time
 from typing import Iterator
 
 from .client import Lost
-from .arguments import Parser, add_port, add_slot, name_of, seconds
+from .arguments import Parser, add_port, add_slot, listen_port, name_of, seconds
 from .ending import end_of, sayer
 from .archiver import Archiver
 from .device_file import Damaged, NoDevice
 from .judging import read_once
 from .line_follower import LineFollower
+from .metrics_page import show_page
 from .mirror import Follower, Served
 from .store import Store, is_there
 from .upkeep import list_plants, prune
@@ -109,6 +114,8 @@ def run(chosen: argparse.Namespace) -> None:
     served = Served(chosen.port, chosen.slot, say)
     with Store.open(chosen.database, make=True) as store, follower_of(chosen, served) as follower:
         archiver = Archiver(store, name, follower)
+        if chosen.metrics is not None:
+            show_page(chosen.metrics, archiver.metrics, say)
         if chosen.once:
             served.say = lambda *_: None
             return archive_once(archiver, served)
@@ -151,6 +158,12 @@ def arguments() -> Parser:
     command.add_argument("--existing", action="store_true", help="with --stopped: do nothing where there is no archive")
     command.add_argument(
         "--name", metavar="PLANT", help="the plant's name in the archive; the device file's where it is left out"
+    )
+    command.add_argument(
+        "--metrics",
+        type=listen_port,
+        metavar="PORT",
+        help="a page of metrics at this port of 127.0.0.1; 0 for any that is free",
     )
     command.add_argument("--once", action="store_true", help="archive what is there, and end")
     command.add_argument("--seconds", type=seconds, metavar="S", help="end after S seconds")

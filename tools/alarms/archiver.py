@@ -1,6 +1,8 @@
 """Brings what is new of a followed plant into an archive."""
+import time
 from typing import Iterator, Optional
 
+from .archive_check import ArchiveCheck
 from .archive_rows import (
     ArchivedPlant,
     action_row,
@@ -13,19 +15,23 @@ from .archive_rows import (
     latest,
     table_of,
 )
+from .archive_state import keep_state, kept_plant
 from .askers import Askers
 from .device_file import Damaged
 from .ending import sayer
 from .known import known
 from .line_follower import LINES, LineFollower
+from .metrics_page import Metric
 from .mirror import Follower
 from .model import PlantModel
 from .plant_mirror import Begun, Gap, News, Replaced, Step
 from .store import Store
-from .table_file import fixed
+from .table_file import Table, fixed
 
 # Steps that are written together.
 STEPS = 2000
+# Seconds after which the state of a plant that is followed by lines is kept again.
+KEEP = 3600.0
 BEFORE = "before the archive"
 # Why the end of a plant is missing: its file was read no further, or nobody read it.
 REPLACED, UNSEEN = "replaced before a query showed them", "the plant's end wasn't seen"
@@ -40,7 +46,11 @@ class Archiver:
 
     def __init__(self, store: Store, name: str, follower: Follower | LineFollower):
         self.store, self.name, self.follower = store, name, follower
-        self.askers = Askers(follower.served)
+        self.askers, self.check = Askers(follower.served), ArchiveCheck(follower.served)
+        self.kept_at: Optional[float] = None
+        self.missing = 0
+        if isinstance(follower, LineFollower):
+            follower.kept = self.kept_state
         # the plant that is archived now; none before one is begun
         self.kept: Optional[ArchivedPlant] = None
         # the archived actions that the device has to have too, where it is the plant that was archived last
@@ -63,14 +73,49 @@ class Archiver:
             self.write()
             raise
         self.write()
+        if self.kept and self.held is None and self.follower.begun:
+            self.keep()
+            self.check.look(self.model)
+            self.check.keep_news(self.store, self.plant.number, self.name, self.tags)
         return any_news
+
+    def kept_state(self, table: Table, first: int) -> Optional[PlantModel]:
+        """The plant that was archived last, for a follower that goes by lines."""
+        last = None if self.forced else latest(self.store, self.name)
+        return kept_plant(self.store, last, table, first) if last else None
+
+    def keep(self) -> None:
+        """Keeps the state of a plant that is followed by lines, once in a while."""
+        now = time.monotonic()
+        is_due = self.kept_at is None or now >= self.kept_at + KEEP
+        if isinstance(self.follower, LineFollower) and is_due and self.model.count == self.plant.last:
+            keep_state(self.store, self.plant.number, self.model)
+            self.store.commit()
+            self.kept_at = now
+
+    def metrics(self) -> Iterator[Metric]:
+        """Name, kind, page and value of each metric."""
+        rows, kept = self.check.rows, self.kept
+        yield "alarms_archive_connected", "gauge", "Whether the archiver has the server.", int(
+            self.follower.served.is_there
+        )
+        if kept:
+            yield "alarms_archive_last_action", "gauge", "The number of the last archived action.", kept.last
+        missing = "Actions that the archive hasn't, of those since the archiver began."
+        yield "alarms_archive_missing_actions_total", "counter", missing, self.missing
+        compared = "Rows that were held against the server's."
+        yield "alarms_archive_rows_compared_total", "counter", compared, rows.compared
+        denied = "Alarms whose row by the archive isn't the server's."
+        yield "alarms_archive_rows_denied", "gauge", denied, len(rows.denied)
 
     def take(self, one: News) -> bool:
         """Archives something new; whether the rest of what is new is of the same plant."""
         if isinstance(one, Step):
+            self.check.reached(self.model)
             return self.step(one)
+        self.check.restart()
         if isinstance(one, Begun):
-            self.begin()
+            self.begin(one.number)
         elif isinstance(one, Gap):
             self.gap(one.first, one.last, self.follower.lost)
         else:
@@ -90,9 +135,9 @@ class Archiver:
         """Which file it is."""
         return self.follower.mirror.place()
 
-    def begin(self) -> None:
+    def begin(self, first: int) -> None:
         """Goes on with the plant that was archived last, if the device's is that one; else begins another of the same
-        name."""
+        name. The actions behind `first` come next."""
         self.tags = [alarm.tag for alarm in self.model.table()]
         last = latest(self.store, self.name)
         if last is None:
@@ -103,8 +148,8 @@ class Archiver:
         self.kept, self.compared = last, 0
         if self.model.count > last.last:
             self.gap(last.last + 1, self.model.count, self.follower.lost)
-        elif self.model.count < last.last:
-            self.held = archived(self.store, last.number, self.model.count)
+        elif first < last.last:
+            self.held = archived(self.store, last.number, first)
             self.next_held = next(known(self.held), None)
 
     def is_another(self, last: ArchivedPlant) -> str:
@@ -150,6 +195,7 @@ class Archiver:
         self.store.insert("flood", flood_rows(number, model))
         self.store.commit()
         self.plant.last, self.plant.moment = model.count, model.now
+        self.kept_at = None
 
     def gap(self, first: int, last: int, why: str) -> None:
         """Actions that are gone."""
@@ -157,6 +203,7 @@ class Archiver:
         first = max(first, self.plant.last + 1)
         if first <= last:
             self.found(first, why, self.plant.moment)
+            self.missing += last - first + 1
             say(f"actions {first} to {last} of {self.name}: {why}")
             self.held = None
 
@@ -239,6 +286,7 @@ class Archiver:
         """Begins the device again, as another plant."""
         self.follower.mirror.close()
         self.follower.begun = self.kept = self.held = None
+        self.check.restart()
         self.forced = True
         return False
 

@@ -1,20 +1,15 @@
-"""That a feed lives: a word to systemd's watchdog, and a page of metrics in the text format that Prometheus reads, on
-loopback alone.
-"""
-import http.server
+"""That a feed lives: a word to systemd's watchdog, and a page of metrics."""
 import os
 import socket
-import threading
 import time
 from typing import Iterator, Optional
 
-from .connecting import HOST
 from .feed_lines import Lines, say
 from .inbox import Inbox
+from .metrics_page import Metric, show_page
 
-# Seconds between two words to the watchdog where it names no other number, and after which a client of the page is
-# left.
-HEARTBEAT, SILENCE = 5.0, 10
+# Seconds between two words to the watchdog where it names no other number.
+HEARTBEAT = 5.0
 COUNTERS = {
     "readings": "Readings of all sources.",
     "changed": "Values that changed a condition.",
@@ -48,10 +43,7 @@ class Alive:
         self.every = int(watchdog) / 3e6 if watchdog.isdecimal() and int(watchdog) else HEARTBEAT
         self.next_beat = 0.0
         if port is not None:
-            page = Page((HOST, port), Asked)
-            page.alive = self
-            say(f"metrics at http://{HOST}:{page.server_port}/metrics")
-            threading.Thread(target=page.serve_forever, daemon=True).start()
+            show_page(port, self.metrics, say)
 
     def ready(self) -> None:
         """The map is read, and the sources are begun."""
@@ -67,7 +59,7 @@ class Alive:
         """When the next word is due."""
         return self.next_beat
 
-    def metrics(self) -> Iterator[tuple[str, str, str, float]]:
+    def metrics(self) -> Iterator[Metric]:
         """Name, kind, page and value of each metric."""
         if not self.lines or not self.inbox:
             return
@@ -83,39 +75,3 @@ class Alive:
         if self.lines.last_moment is not None:
             moment = time.time() - (time.monotonic() - self.lines.last_moment)
             yield "alarms_feed_last_value_timestamp_seconds", "gauge", "When the last value came, since 1970.", moment
-
-    def page(self) -> str:
-        return "".join(
-            f"# HELP {name} {page}\n# TYPE {name} {kind}\n{name} {value:.3f}\n"
-            if isinstance(value, float)
-            else f"# HELP {name} {page}\n# TYPE {name} {kind}\n{name} {value}\n"
-            for name, kind, page, value in self.metrics()
-        )
-
-
-class Page(http.server.ThreadingHTTPServer):
-    """Answers /metrics, each client in a thread."""
-
-    daemon_threads = True
-    alive: Alive
-
-
-class Asked(http.server.BaseHTTPRequestHandler):
-    """A client of the page."""
-
-    server: Page
-    timeout = SILENCE
-
-    def do_GET(self) -> None:
-        if self.path != "/metrics":
-            self.send_error(404)
-            return
-        body = self.server.alive.page().encode("ascii")
-        self.send_response(200)
-        self.send_header("Content-Type", "text/plain; version=0.0.4; charset=utf-8")
-        self.send_header("Content-Length", str(len(body)))
-        self.end_headers()
-        self.wfile.write(body)
-
-    def log_message(self, *_: object) -> None:
-        pass

@@ -181,6 +181,7 @@ class Figures:
                 0,
             ),
             Figure("gaps without a known end", sum(gap.last is None for gap in self.life.gaps), 0),
+            Figure("alarms whose row the server denied", len({one.tag for one in self.life.denied}), 0),
         ]
 
     def tables(self) -> list[FigureTable]:
@@ -222,6 +223,9 @@ class Figures:
                 "gaps",
                 ("plant", "first", "last", "began", "ended", "why"),
                 [(gap.plant, gap.first, gap.last, gap.began, gap.ended, gap.why) for gap in self.life.gaps],
+            ),
+            FigureTable(
+                "denied", ("moment", "tag", "field", "archived", "shown"), [tuple(one) for one in self.life.denied]
             ),
         ]
 

@@ -12,10 +12,11 @@ A server writes an action before it is stored durably, so the file may be ahead 
 asks ten times a second how many actions the server shows, and prints none above that. It asks at a console's slot: 14,
 or --slot K. Without --port it prints what stands in the file, and says so.
 
-Which slot asked isn't stored. The device has the actions since the checkpoint before the last one, or since the last
-one while a checkpoint is made. Actions that it no longer has are named in a line `(actions 5 to 9: no longer in the
-file)`. Where another file is put in the device's place, or it is formatted again, a line says so, and that file's
-actions follow from its first one on.
+It reads the file, since the server remembers no action of before its start (SINCE), and no line tells how full the
+journal is. Which slot asked isn't stored. The device has the actions since the checkpoint before the last one, or since
+the last one while a checkpoint is made. Actions that it no longer has are named in a line `(actions 5 to 9: no longer
+in the file)`. Where another file is put in the device's place, or it is formatted again, a line says so, and that
+file's actions follow from its first one on.
 """
 import argparse
 import dataclasses

@@ -14,7 +14,7 @@ from .known import known
 from .model import FLAGS, LETTERS, WINDOW
 from .store import Store, StoreFault
 from .moments import date
-from .spells import Acknowledgement, Annunciation, AttributeChange, Return, Spell
+from .spells import Acknowledgement, Annunciation, AttributeChange, Denied, Return, Spell
 
 STALE = 86_400
 # A span that is longer has a clock that was wrong in it, or never set.
@@ -91,6 +91,7 @@ class Life:
     asked: collections.Counter[tuple[str, Optional[int]]] = field(default_factory=collections.Counter)
     spells: list[Spell] = field(default_factory=list)
     gaps: list[ArchiveGap] = field(default_factory=list)
+    denied: list[Denied] = field(default_factory=list)
     # the alarms at the end, by tag
     alarms: dict[str, ChangeRow] = field(default_factory=dict)
 
@@ -356,6 +357,18 @@ def play_plant(store: Store, player: Player, plant: PlantRows) -> None:
         "SELECT COUNT(*) FROM action WHERE plant = ? AND number > ? AND number <= ?",
         (number, max(plant.counted, number_at(life.begin)), last),
     )
+    life.denied += denied_of(store, number, number_at(life.begin), life.end, set(life.areas))
+
+
+def denied_of(store: Store, plant: int, first: int, end: int, areas: set[int]) -> list[Denied]:
+    """What the server denied of rows of alarms of some areas, from an action on, before a moment."""
+    if "denied" not in store.more():
+        return []
+    query = (
+        "SELECT d.moment, d.tag, d.field, d.archived, d.shown, l.area FROM denied d JOIN alarm l ON l.plant = d.plant"
+        " AND l.alarm = d.alarm WHERE d.plant = ? AND d.number >= ? AND d.moment < ? ORDER BY d.number, d.tag, d.field"
+    )
+    return [Denied(*row) for *row, area in store.rows(query, (plant, first, end)) if area in areas]
 
 
 def asked_by(

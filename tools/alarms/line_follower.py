@@ -1,35 +1,61 @@
 """The plant of a served device by its server's lines alone, for an archive without the device.
 
-It begins with the rows as they are. Each action of SINCE is played on a model of the plant from there on. What happened
-while nobody followed, or before a server that was started again, is a gap. Floods are asked.
+It begins with the plant as it was archived, where the server remembers each action since, and else with the rows as
+they are. Each action of SINCE is played on a model of the plant from there on. What the server no longer remembers is a
+gap. Floods are asked.
 """
-from typing import Iterator, Optional
+import collections
+from dataclasses import dataclass, field
+from typing import Callable, Iterator, Optional
 
 from .client import Client, Flood, Lost, OtherPlant, Place, Refusal, Refused
+from .device_file import NoDevice
 from .known import known
 from .mirror import Served
-from .model import AlarmState, AreaWindow, FloodChange, PlantModel
+from .model import UNKNOWN_STAMP, AlarmState, AreaWindow, FloodChange, PlantModel
 from .plant_mirror import Begun, Gap, News, Replaced, Step
 from .replies import Entry
 from .table_file import Table, fixed
 
 # In the place of a file's number.
 LINES = "lines"
+# So many actions that are known already are asked again at a new connection: where they are others, the plant is
+# another one.
+AGAIN = 256
+# The plant of a table as it was archived, behind the action before this number or a later one; none where the archive
+# hasn't each action up to there.
+Kept = Callable[[Table, int], Optional[PlantModel]]
+
+
+@dataclass
+class Told:
+    """What a look was told: that a plant is another one, and then the actions, with the floods behind them."""
+
+    first: list[News] = field(default_factory=list)
+    entries: list[Entry] = field(default_factory=list)
+    floods: list[Flood] = field(default_factory=list)
 
 
 class LineMirror:
-    """A plant that goes on as its server's lines say."""
+    """A plant that goes on as its server's lines say. A row has a count of its own: what is up to it the alarm has
+    already."""
 
-    def __init__(self, client: Client, table: Table):
-        moment, rows = client.plant().moment, client.rows(range(len(table.alarms)))
-        # A row has a count of its own: what is up to it the alarm has already.
-        self.counts = [row.count for row in rows]
+    def __init__(self, plant: PlantModel, counts: list[int]):
+        self.plant, self.counts = plant, counts
+        self.recent: collections.deque[Entry] = collections.deque(maxlen=AGAIN)
+
+    @classmethod
+    def of_rows(cls, client: Client, table: Table) -> "LineMirror":
+        """The plant as it is now."""
+        overview, rows = client.plant(), client.rows(range(len(table.alarms)))
         alarms = [AlarmState.of_row(number, *pair) for number, pair in enumerate(zip(table.alarms, rows))]
         windows = [AreaWindow.empty() for _ in range(table.areas)]
-        self.plant = PlantModel(moment, 0, min(self.counts), windows, alarms)
-        for entry in client.entries(self.plant.count):
-            self.step(entry)
-        self.take_floods(client.floods(table.areas))
+        plant = PlantModel(overview.moment, UNKNOWN_STAMP, overview.count, windows, alarms)
+        mirror = cls(plant, [row.count for row in rows])
+        for entry in client.entries(overview.count):
+            mirror.step(entry)
+        mirror.take_floods(client.floods(table.areas))
+        return mirror
 
     @property
     def count(self) -> int:
@@ -45,8 +71,12 @@ class LineMirror:
         """Nothing is open."""
 
     def step(self, entry: Entry) -> Step:
-        """Plays an action, unless its alarm's row is newer."""
+        """Plays an action, unless the plant has it already, or its alarm's row is newer. `NoDevice` says that it is
+        none that the plant admits."""
         action = entry.action
+        self.recent.append(entry)
+        if action.number <= self.plant.count:
+            return Step(action, entry.moment, [], [], entry.slot)
         if action.word == "CLOCK":
             changes, _ = self.plant.apply(action)
         elif action.number > self.counts[action.alarm]:
@@ -55,6 +85,14 @@ class LineMirror:
         else:
             self.plant.count, self.plant.now, changes = action.number, entry.moment, []
         return Step(action, entry.moment, changes, [], entry.slot)
+
+    def is_of(self, client: Client) -> bool:
+        """Whether a server tells the last actions as they were told before, as far as it remembers them."""
+        start = max(client.since().first - 1, self.count - AGAIN)
+        before = {entry.action.number: entry for entry in self.recent}
+        return start >= self.count or all(
+            before.get(entry.action.number, entry) == entry for entry in client.since(start).entries
+        )
 
     def take_floods(self, floods: list[Flood]) -> list[FloodChange]:
         """Takes what was asked of the areas; which floods began or ended."""
@@ -69,7 +107,7 @@ class LineMirror:
 
 
 class LineFollower:
-    """What becomes of a served plant."""
+    """What becomes of a served plant. `kept` gives it as it was archived."""
 
     # Why actions are gone.
     lost = "nobody asked for them, or the server no longer remembers them"
@@ -77,6 +115,10 @@ class LineFollower:
     def __init__(self, place: Place, served: Served):
         self.path, self.served = str(place), served
         self.begun: Optional[LineMirror] = None
+        # the connection at which the plant is known to be the one that is followed
+        self.client: Optional[Client] = None
+        self.is_broken = False
+        self.kept: Kept = lambda _table, _first: None
 
     @property
     def mirror(self) -> LineMirror:
@@ -93,34 +135,65 @@ class LineFollower:
         """What is new. A connection that is lost is made again by the next look."""
         self.served.look()
         try:
-            news = self.ask() if self.served.is_there else []
+            told = self.ask() if self.served.is_there else Told()
         except (Lost, OtherPlant, Refused) as fault:
             self.served.end()
             self.served.say_once(str(fault), "- trying again")
             return
-        yield from news
+        yield from told.first
+        for entry in told.entries:
+            try:
+                step = self.mirror.step(entry)
+            except NoDevice as fault:
+                self.served.say_once(str(fault), "- going on with the server's rows")
+                self.is_broken = True
+                return
+            yield step._replace(floods=self.mirror.take_floods(told.floods)) if entry is told.entries[-1] else step
 
-    def ask(self) -> list[News]:
+    def ask(self) -> Told:
         """Asks for all that is new."""
         client, table = known(self.served.asked.client), self.served.asked.table
         if self.begun is None:
-            self.begun = LineMirror(client, table)
-            return [Begun(self.mirror.count)]
-        if self.served.count < self.mirror.count or fixed(table.alarms) != fixed(self.mirror.plant.table()):
+            return self.begin(client, table)
+        if self.is_other(client, table):
             last, self.begun = self.mirror.count, None
             self.served.forget()
-            return [Replaced(last, None)]
-        return self.steps(client, table) if self.served.count > self.mirror.count else []
-
-    def steps(self, client: Client, table: Table) -> list[News]:
-        """The actions since the last time; a gap, where the server doesn't remember them."""
+            return Told([Replaced(last, None)])
         last = self.mirror.count
+        told = self.since(client, table, last) if self.served.count > last else Told()
+        if told is None or self.is_broken:
+            self.begun, self.is_broken = LineMirror.of_rows(client, table), False
+            return Told([Gap(last + 1, self.mirror.count)])
+        return told
+
+    def is_other(self, client: Client, table: Table) -> bool:
+        """Whether the server has another plant than the one that is followed. That may be so at a new connection."""
+        if client is self.client:
+            return self.served.count < self.mirror.count
+        has_table = fixed(table.alarms) == fixed(self.mirror.plant.table())
+        if self.served.count < self.mirror.count or not has_table or not self.mirror.is_of(client):
+            return True
+        self.client = client
+        return False
+
+    def begin(self, client: Client, table: Table) -> Told:
+        """Goes on behind what is archived, where the server remembers what came then."""
+        first = client.since().first
+        plant = self.kept(table, first)
+        if plant and plant.count <= self.served.count:
+            start = max(first - 1, plant.count - AGAIN)
+            told = self.since(client, table, start)
+            if told:
+                self.begun, told.first = LineMirror(plant, [0] * len(plant.alarms)), [Begun(start)]
+                return told
+        self.begun = LineMirror.of_rows(client, table)
+        return Told([Begun(self.mirror.count)])
+
+    def since(self, client: Client, table: Table, last: int) -> Optional[Told]:
+        """The actions behind a number; none where the server doesn't remember them."""
         try:
-            entries, floods = list(client.entries(last)), client.floods(table.areas)
-            steps = [self.mirror.step(entry) for entry in entries]
+            return Told([], list(client.entries(last)), client.floods(table.areas))
         except Refused as refused:
             if refused.refusal != Refusal.FORGOTTEN:
                 raise
-            self.begun = LineMirror(client, table)
-            return [Gap(last + 1, self.mirror.count)]
-        return [*steps[:-1], *(step._replace(floods=self.mirror.take_floods(floods)) for step in steps[-1:])]
+            return None

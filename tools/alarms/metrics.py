@@ -10,9 +10,9 @@ else of the plant is there. Where it answers at another slot, another client has
 There are counters too, of annunciations and acknowledgements by priority: those since the exporter began. They go on
 by SINCE, so they need no device. `alarms_uncounted_actions_total` counts what the server no longer remembered by then.
 
-With --device it also reads, from the file, how full the journal is, and the epoch, which grows by one with each
-checkpoint. `alarms_device_damaged` is 1 where bytes of it are damaged, with the half and the place, else 0.
-`alarms_rows_denied` is how many alarms have another row by the journal than the server shows.
+With --device it also reads, from the file, what no line tells: how full the journal is, and the epoch, which grows by
+one with each checkpoint. `alarms_device_damaged` is 1 where bytes of it are damaged, with the half and the place, else
+0. `alarms_rows_denied` is how many alarms have another row by the journal than the server shows.
 
 With --table it reads the table file each time, and ends with status 1 where the plant isn't that file's, or is on
 another device than before.

@@ -15,6 +15,7 @@ As a module:
                 ..
             follower.mirror.plant           # a PlantModel, as the server shows it
 
+It reads the file, since no line tells the epoch, and each reply to a line has a count of its own: here all is of one.
 Nothing is written, and no lock is taken. Where a checkpoint puts another half in the place of the one that was read, it
 goes on there. Where it was held up while two were made, the actions between are a `Gap`. Another file at the path, or
 another plant in the file, is a `Replaced`.

@@ -30,6 +30,8 @@ ACKNOWLEDGED = {"UNACK": "ACKED", "RTNUN": "NORM", "LATUN": "LATAK"}
 # Seconds in which an area's annunciations are counted; a flood begins above the first number and ends below the second.
 WINDOW = 600
 FLOOD_ABOVE, FLOOD_BELOW = 10, 5
+# The next stamp of a plant whose stamps so far nobody knows: below 0 they stand in their order.
+UNKNOWN_STAMP = -(2**62)
 
 
 class Change(NamedTuple):
@@ -221,6 +223,15 @@ class PlantModel:
         """The next stamp, which no other has."""
         self.next_stamp += 1
         return self.next_stamp - 1
+
+    def learn_stamp(self, alarm: AlarmState, stamp: int) -> None:
+        """Takes the server's stamp of an alarm, where the plant began without knowing the next one: by it all are
+        known."""
+        ahead = stamp - alarm.stamp
+        if alarm.stamp < 0 < stamp:
+            self.next_stamp += ahead
+            for one in self.alarms:
+                one.stamp += ahead if one.stamp < 0 else 0
 
     def normal(self, alarm: AlarmState) -> None:
         """It is no longer annunciated."""

@@ -4,14 +4,40 @@ A tool that follows the journal has a model of the plant. So it asks the server 
 holds each against the model's at the same count of actions.
 """
 import collections
+from dataclasses import dataclass
 from typing import Iterable
 
-from .model import SHELVED, AlarmState, PlantModel
+from .model import LETTERS as FLAG_LETTERS, SHELVED, AlarmState, PlantModel
 from .replies import Row
 
 # What is compared of a row, by its name.
 Fields = dict[str, object]
 LETTERS = "SDO"
+
+
+@dataclass(frozen=True)
+class Difference:
+    """A field of an alarm's row that isn't the server's, behind the action `number` at a moment in seconds: what it is
+    by the model, and what the server shows."""
+
+    alarm: int
+    number: int
+    moment: int
+    field: str
+    here: str
+    there: str
+
+    def __str__(self) -> str:
+        return f"its {self.field} is {self.here} here, and {self.there} there"
+
+
+def written(name: str, value: object) -> str:
+    """A field's value for people."""
+    if name == "flags" and isinstance(value, int):
+        return FLAG_LETTERS[value]
+    if isinstance(value, tuple):
+        return " ".join(map(str, value)) or "-"
+    return "-" if value is None else str(int(value) if isinstance(value, bool) else value)
 
 
 def of_model(alarm: AlarmState) -> Fields:
@@ -51,14 +77,15 @@ class RowCheck:
     """Holds a plant's rows against the server's."""
 
     def __init__(self) -> None:
+        self.compared = 0
         self.begin()
 
     def begin(self) -> None:
         """Another plant: nothing is known of its rows."""
         self.next = 0
-        # Replies of a plant that the model hasn't reached, by their count; and the alarms that the server denies.
+        # Replies of a plant that the model hasn't reached, by their count; and what of which alarms the server denies.
         self.waiting: dict[int, list[tuple[int, Row]]] = collections.defaultdict(list)
-        self.denied: set[int] = set()
+        self.denied: dict[int, list[Difference]] = {}
 
     def due(self, alarms: int, part: int) -> list[int]:
         """The alarms that are asked now: at most so many, one round after the other."""
@@ -83,6 +110,15 @@ class RowCheck:
                     self.compare(plant, number, row)
 
     def compare(self, plant: PlantModel, number: int, row: Row) -> None:
-        """Notes whether the server denies an alarm's row."""
-        is_right = of_model(plant.alarms[number]) == of_server(row)
-        (self.denied.discard if is_right else self.denied.add)(number)
+        """Notes what of an alarm's row the server denies."""
+        alarm = plant.alarms[number]
+        plant.learn_stamp(alarm, row.stamp)
+        mine, its = of_model(alarm), of_server(row)
+        self.denied.pop(number, None)
+        self.compared += 1
+        if mine != its:
+            self.denied[number] = [
+                Difference(number, row.count, plant.now, name, written(name, value), written(name, its[name]))
+                for name, value in mine.items()
+                if value != its[name]
+            ]

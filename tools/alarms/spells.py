@@ -38,6 +38,16 @@ class AttributeChange(NamedTuple):
     value: int
 
 
+class Denied(NamedTuple):
+    """A field of an alarm's row that was archived otherwise than the server showed it."""
+
+    moment: int
+    tag: str
+    field: str
+    archived: str
+    shown: str
+
+
 class Spell(NamedTuple):
     """How long something was so: an alarm stood, was stale or was suppressed, an area was flooded. `end` is none where
     it goes on.

@@ -15,8 +15,8 @@ from typing import Any, Iterable, Iterator, Optional, Sequence
 from .ending import Fault
 from .known import known
 
-# What a reader can do without is read of format 1 too; who writes brings it to the newest.
-FORMAT, OLDEST = 2, 1
+# What a reader can do without is read of formats 1 and 2 too; who writes brings it to the newest.
+FORMAT, OLDEST = 3, 1
 # Seconds that a statement waits for another process which writes a file of SQLite.
 PATIENCE = 60
 # Rows that are fetched at once.
@@ -48,8 +48,19 @@ TABLES = {
         "plant INTEGER NOT NULL, first BIGINT NOT NULL, last BIGINT, began BIGINT, ended BIGINT, why TEXT NOT NULL, "
         "PRIMARY KEY (plant, first)"
     ),
+    "denied": (
+        "plant INTEGER NOT NULL, alarm INTEGER NOT NULL, number BIGINT NOT NULL, moment BIGINT NOT NULL, tag TEXT NOT"
+        " NULL, field TEXT NOT NULL, archived TEXT NOT NULL, shown TEXT NOT NULL, PRIMARY KEY (plant, alarm, number,"
+        " field)"
+    ),
+    "state": (
+        "plant INTEGER PRIMARY KEY, number BIGINT NOT NULL, moment BIGINT NOT NULL, stamp BIGINT NOT NULL, alarms TEXT"
+        " NOT NULL"
+    ),
     "about": "format INTEGER NOT NULL",
 }
+# What format 3 has, and those before hadn't.
+NEW = ("denied", "state")
 COLUMNS = {table: columns.split(", PRIMARY KEY")[0].count(",") + 1 for table, columns in TABLES.items()}
 # One row for each action and each alarm that it changed: what an alarm journal shows. What a plant was only brought
 # isn't in it.
@@ -137,27 +148,36 @@ class Store:
         self.run("INSERT INTO about VALUES (?)", (FORMAT,))
 
     def renew(self) -> None:
-        """Brings an archive of format 1 to the newest, all of it or nothing."""
+        """Brings an archive of an earlier format to the newest, all of it or nothing."""
         self.commit()
         if self.mark == "?":
             self.run("BEGIN IMMEDIATE")
-        if self.value("SELECT format FROM about") == OLDEST:  # another archiver may have come before
-            counted = self.counted()
-            self.run("DROP VIEW history")
-            for table in ("plant", "gap"):
-                self.run(f"ALTER TABLE {table} RENAME TO {table}_before")
-            self.make(["plant", "gap"])
-            for plant, *columns in list(
-                self.rows("SELECT plant, name, device, areas, begins, shown FROM plant_before")
-            ):
-                self.insert("plant", [(plant, *columns, counted[plant], None)])
-            self.run("INSERT INTO gap SELECT plant, first, last, began, ended, why FROM gap_before")
-            for table in ("plant", "gap"):
-                self.run(f"DROP TABLE {table}_before")
-            self.run(HISTORY)
+        self.format = self.value("SELECT format FROM about")  # another archiver may have come before
+        if self.format == OLDEST:
+            self.renew_plants()
+        if self.format < FORMAT:
+            self.make(NEW)
             self.run("UPDATE about SET format = ?", (FORMAT,))
         self.commit()
         self.format = FORMAT
+
+    def renew_plants(self) -> None:
+        """Brings the plants and gaps of format 1 to what they are since."""
+        counted = self.counted()
+        self.run("DROP VIEW history")
+        for table in ("plant", "gap"):
+            self.run(f"ALTER TABLE {table} RENAME TO {table}_before")
+        self.make(["plant", "gap"])
+        for plant, *columns in list(self.rows("SELECT plant, name, device, areas, begins, shown FROM plant_before")):
+            self.insert("plant", [(plant, *columns, counted[plant], None)])
+        self.run("INSERT INTO gap SELECT plant, first, last, began, ended, why FROM gap_before")
+        for table in ("plant", "gap"):
+            self.run(f"DROP TABLE {table}_before")
+        self.run(HISTORY)
+
+    def more(self) -> tuple[str, ...]:
+        """The tables that an archive of an earlier format hasn't."""
+        return NEW if self.format == FORMAT else ()
 
     def counted(self) -> dict[int, int]:
         """Of each plant the last action that isn't counted, since it only brought what the plant before had, or was

@@ -48,7 +48,7 @@ def prune(chosen: argparse.Namespace) -> None:
             if last:
                 gone += prune_plant(store, plant, *last)
             if plant != plants[-1] and not store.value("SELECT COUNT(*) FROM action WHERE plant = ?", (plant,)):
-                for table in ("plant", "alarm", "change", "flood", "gap"):
+                for table in ("plant", "alarm", "change", "flood", "gap", *store.more()):
                     store.run(f"DELETE FROM {table} WHERE plant = ?", (plant,))
         store.commit()
         print(f"{chosen.name}: {gone} actions before {date(chosen.before)} pruned")
@@ -79,6 +79,8 @@ def prune_plant(store: Store, plant: int, last: int, moment: int) -> int:
     )
     for table in ("action", "change", "flood"):
         store.run(f"DELETE FROM {table} WHERE plant = ? AND number <= ?", (plant, last))
+    if "denied" in store.more():
+        store.run("DELETE FROM denied WHERE plant = ? AND number <= ?", (plant, last))
     store.run("DELETE FROM gap WHERE plant = ? AND last <= ?", (plant, last))
     store.insert(
         "change",
