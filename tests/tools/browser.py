@@ -34,6 +34,7 @@ PARTS = (
     "check_hand",
     "check_details",
     "check_positions",
+    "check_leaving",
     "check_language",
     "check_screen",
     "check_hold",

@@ -13,8 +13,8 @@ name      what the lines begin with, or a topic of MQTT, or any text for a regis
 tag       the alarm's tag in the plant
 as        `value`, or `design` for a source that suppresses the alarm: 1, on, true or 0, off, false. `value` if it is
           left out
-scale     a decimal number by which a value is multiplied, and then rounded to a whole number; if it is left out, that of
-          the file of details (feed.py --details), else 1
+scale     a decimal number by which a value is multiplied, and then rounded to a whole number; if it is left out, that
+          of the file of details (feed.py --details), else 1
 bad       what isn't a value, separated by |; a number by its value, so -9999.0 is -9999. Empty texts, NaN, infinite and
           other texts never are
 silent    a number of seconds: a source that has sent no good value for so long has none; a value that is older is none
@@ -178,7 +178,7 @@ def numbers_of(words: Iterable[str]) -> frozenset[Decimal]:
 
 
 def read_rows(lines: Iterable[str], scales: Mapping[str, Decimal]) -> Iterator[Row]:
-    """The rows of a file, its first line the columns. A row that leaves its scale out has that of its tag in `scales`."""
+    """The rows of a file, its first line the columns. A row that leaves its scale out has its tag's in `scales`."""
     reader = csv.reader(lines)
     columns = [cell.strip().lower() for cell in next(reader, [])]
     unknown = [column for column in columns if column not in COLUMNS]
