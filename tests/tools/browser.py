@@ -35,6 +35,7 @@ PARTS = (
     "check_details",
     "check_positions",
     "check_leaving",
+    "check_two_desks",
     "check_language",
     "check_screen",
     "check_hold",
