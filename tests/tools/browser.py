@@ -40,6 +40,7 @@ PARTS = (
     "check_screen",
     "check_hold",
     "check_flood",
+    "check_latency",
     "check_brief",
 )
 # What a short run is, and a whole one isn't.
