@@ -50,10 +50,8 @@ WIDE: dict[str, int] = {
 }
 # What keeps its own layout until its next change.
 LATER = (
-    "tools/alarms/feed.py",
     "tools/alarms/feed_lines.py",
     "tools/alarms/inbox.py",
-    "tools/alarms/value_map.py",
     "tests/tools/check_feed.py",
     "tests/tools/check_mqtt.py",
     "tests/tools/values.py",

@@ -19,7 +19,7 @@ import sys
 import time
 
 from drawn_lines import draw_line
-from plain_plant import REMEMBERED, Plant
+from lib.plain_plant import REMEMBERED, Plant
 from lib.program import PLANT, Wrong, begin, check, finish, run_words
 
 CHUNK = 20_000

@@ -30,7 +30,7 @@ import time
 
 import lines as grammar
 from drawn_lines import draw_line
-from plain_plant import Plant
+from lib.plain_plant import Plant
 from lib.calls import Layout, check_list, commits, on_device, opening, read_calls, split_opening
 from lib.places import TOP
 from lib.program import PLANT, PORTS, Fault, Wrong, begin, check, finish, preload, run_words, state

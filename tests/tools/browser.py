@@ -34,10 +34,13 @@ PARTS = (
     "check_hand",
     "check_details",
     "check_positions",
+    "check_leaving",
+    "check_two_desks",
     "check_language",
     "check_screen",
     "check_hold",
     "check_flood",
+    "check_latency",
     "check_brief",
 )
 # What a short run is, and a whole one isn't.

@@ -1,6 +1,7 @@
 """The language of the page: each word is in the files of words and told by them, and who suppressed an alarm, why and
 since when. tests/tools/browser.py runs these checks."""
 import json
+import os
 import re
 import subprocess
 import time
@@ -201,7 +202,7 @@ def small_table(yard: Yard) -> str:
 
 def why(yard: Yard, _count: int) -> str:
     """Who suppressed an alarm, why and since when is there when journal and device have dropped it, also after a
-    restart; what somebody else did has its moment alone."""
+    restart and on another table's device; what somebody else did has its moment alone."""
     plant = Plant(yard, small_table(yard))
     listed = engineer(yard, plant, "--notes", yard.path("notes.sqlite"))
     page = Page(yard, listed.url)
@@ -220,26 +221,46 @@ def why(yard: Yard, _count: int) -> str:
         "service": {"A-2": ("anna", "transmitter removed, permit 4711"), "A-4": ("", "")},
         "design": {"A-3": ("", "")},
     }
-    said = "return new Date(arguments[0] * 1000).toLocaleTimeString('en-GB')"
-    for turn in range(2):
-        for view, rows in wanted.items():
-            page.turn(view)
-            page.until("its rows", lambda: sorted(page.tags()) == sorted(rows))
-            for tag, (user, reason) in rows.items():
-                cells = page.row(tag)["cells"]
-                found = (cells["user"], cells["reason"], cells["time"])
-                check(found == (user, reason, page.js(said, begun)), view, tag, "is told as", found, "turn", turn)
-        page.turn("shelved")
-        page.choose("A-1")
-        text = f"Shelved: since {page.js(said, begun)}, anna, pump in test"
-        check(text in page.of("#detail"), "of the selected alarm it says", page.of("#detail"))
-        page.press(Keys.ESCAPE)
-        if not turn:
-            forgets(plant, listed, page)
+    tells_why(page, wanted, begun)
+    forgets(plant, listed, page)
+    tells_why(page, wanted, begun)
+    changes_table(yard, plant)
+    page.until("another plant", lambda: page.of_module("state", "page.plants[0].table[4]?.text") == "Another text")
+    tells_why(page, wanted, begun)
     page.end()
     listed.end()
     plant.end()
     return "who, why and since when"
+
+
+def tells_why(page: Page, wanted: dict[str, dict[str, tuple[str, str]]], begun: int) -> None:
+    """Each view has its alarms, with who, why and since when; so has what is known of the selected alarm."""
+    time_ = page.js("return new Date(arguments[0] * 1000).toLocaleTimeString('en-GB')", begun)
+    for view, rows in wanted.items():
+        page.turn(view)
+        page.until("its rows", lambda: sorted(page.tags()) == sorted(rows))
+        for tag, who in rows.items():
+            cells = page.row(tag)["cells"]
+            found = (cells["user"], cells["reason"], cells["time"])
+            check(found == (*who, time_), view, tag, "is told as", found)
+    page.turn("shelved")
+    page.choose("A-1")
+    text = f"Shelved: since {time_}, anna, pump in test"
+    check(text in page.of("#detail"), "of the selected alarm it says", page.of("#detail"))
+    page.press(Keys.ESCAPE)
+
+
+def changes_table(yard: Yard, plant: Plant) -> None:
+    """The states are brought onto a device of a table with another text, on which actions are counted anew."""
+    plant.leave()
+    plant.server.end()
+    table = yard.write("other.toml", yard.run("export", plant.device).replace("Text of A-5", "Another text"))
+    other = yard.format("other.device", table)
+    words = module("change_table", plant.device, table, "--program", yard.program)
+    lines = subprocess.run(words, env=AT_TOOLS, capture_output=True, text=True, timeout=60, check=True).stdout
+    check(" NO " not in yard.run("desk", other, lines=lines), "not all is brought")
+    os.replace(other, plant.device)
+    plant.again()
 
 
 def forgets(plant: Plant, listed: List, page: Page) -> None:

@@ -8,6 +8,7 @@ from lib.tools import Yard, await_true, start, stop, tool, toml
 from alarms.client import Client
 from check_mqtt import conditions
 from lib.program import check
+from lib.server import Server
 from alarms.table_file import Alarm, Table, device_size
 from alarms.value_map import Row
 
@@ -256,5 +257,23 @@ def fractions(yard: Yard) -> str:
         and run.stderr == "feed: TI-1: 401.5 goes by a scale of 1, rounded to 402: is the setpoint in that unit?\n",
         run.stderr,
     )
+    goes_by_details(yard, server)
     server.end()
     return "fractions"
+
+
+def goes_by_details(yard: Yard, server: Server) -> None:
+    """A row without a scale has that of the file of details; one with another scale is said, and counts."""
+    details = yard.write("details.csv", "tag,unit,scale,decimals\nTI-1,°C,10,1\nTI-1L,°C,10,1\n")
+    mapped = yard.write("told.csv", "name,tag,scale\na,TI-1,\nb,TI-1L,100\nc,PI-2,\n")
+    words = ("alm_feed", "--map", mapped, "--details", details)
+    run = tool(*words, "--show", text="a,401.5\nb,40.15\nc,7\n")
+    check(run.stdout == "a says 401.5: TI-1,4015\nb says 40.15: TI-1L,4015\nc says 7: PI-2,7\n", run.stdout)
+    said = "feed: TI-1L: b goes by a scale of 100 in the map, and operators by 10\n"
+    check(run.returncode == 0 and run.stderr == said, run.stderr)
+    wrong = yard.write("wrong.csv", "tag,scale\nTI-1,0\n")
+    for given, text in ((yard.path("none.csv"), "No such file"), (wrong, "row 2, scale: 0 is no decimal number")):
+        run = tool("alm_feed", "--port", server.port, "--map", mapped, "--details", given, text="a,1\n")
+        check((run.returncode, run.stderr.count("\n")) == (1, 1) and text in run.stderr, given, run.stderr)
+    run = tool("alm_feed", "--port", server.port, "--details", details, text="TI-1,1\n")
+    check(run.returncode == 2 and "--details goes with --map" in run.stderr, run.stderr)

@@ -13,6 +13,7 @@ from lib.drawn_plants import module
 from lib.places import AT_TOOLS
 from lib.program import check
 from lib.tools import Yard, await_true, started
+from check_hold import TOP
 from check_proxy import nginx_of, proxied
 from selenium.webdriver.support.ui import Select
 
@@ -217,8 +218,10 @@ def goes_home(ben: Page, anna: Page) -> None:
 
 def changes_shift(yard: Yard, ben: Page, anna: Page) -> None:
     """Ben leaves, anna takes his position from nobody; then each is noted, with what stands."""
+    top = ben.js(TOP)
     takes(ben, "Crude desk", "TI-101 is calibrated", "Leave")
     ben.until("none", lambda: ben.of("#position") == "No position")
+    check(ben.js(TOP) == top, "without a position the list stands at", ben.js(TOP), "and not at", top)
     anna.until("it is free", lambda: "Nobody is at Crude desk" in anna.of("#trouble"))
     anna.click("#position")
     anna.until("what ben said", lambda: ": TI-101 is calibrated" in anna.of("#shifts"))

@@ -234,6 +234,8 @@ def guesses(curl: Callable[..., str], place: str, log_of: str) -> None:
     on."""
     tries, judged = 120, lambda: log().count("password mismatch")
     log = lambda: Path(log_of).read_text(encoding="utf-8", errors="replace")
+    status = ("-o", os.devnull, "-w", "%{http_code}")
+    right = lambda name: curl(*status, "-u", f"{name}:{PASSWORDS[name]}", f"{place}/")
     for path, most in (("/", 40), ("/stream", 0), ("/do", 0)):
         before = judged()
         urls = [word for number in range(tries) for word in ("-o", os.devnull, f"{place}{path}?{number}")]
@@ -242,9 +244,9 @@ def guesses(curl: Callable[..., str], place: str, log_of: str) -> None:
         found = judged() - before
         check(len(said) == tries and set(said) <= {"401", "429"}, path, "was answered", said)
         check(found <= most, "of", tries, "guesses at", path, "there were judged", found)
-    status = ("-o", os.devnull, "-w", "%{http_code}")
-    check(curl(*status, "-u", f"anna:{PASSWORDS['anna']}", f"{place}/") == "429", "the right guess is let in")
-    check(curl(*status, "-u", f"ben:{PASSWORDS['ben']}", f"{place}/") == "200", "ben is kept out by guesses at anna's")
+        if path == "/":  # before another guess is allowed
+            check(right("anna") == "429", "the right guess is let in")
+    check(right("ben") == "200", "ben is kept out by guesses at anna's")
 
 
 def goes_on_amid_guesses(yard: Yard, plant: Plant, page: Page, port: int) -> None:

@@ -66,19 +66,11 @@ def largest(yard: Yard, _count: int) -> str:
         len(replies) == len(standing) and all(flood.flooded for flood in plant.console.floods()),
         "not each area is in flood",
     )
-    listed = List(
-        yard,
-        plant.device,
-        plant.port,
-        "--role",
-        "engineer",
-        "--user",
-        "anna",
-        "--areas",
-        yard.write("names.txt", "\n".join(NAMES) + "\n"),
-    )
+    words = ("--role", "engineer", "--user", "anna", "--areas", yard.write("names.txt", "\n".join(NAMES) + "\n"))
+    listed = List(yard, plant.device, plant.port, *words, *longest_files(yard, plant))
     page = Page(yard, listed.url)
     page.until("all", lambda: page.find("#list").get_attribute("aria-rowcount") == str(len(standing) + 1))
+    takes_all(page)
     for number in (5, 6):
         plant.console.oos(number, True)
     plant.console.shelve(7, 600)
@@ -91,9 +83,30 @@ def largest(yard: Yard, _count: int) -> str:
     return f"{', '.join(map(str, rows))} rows on {len(SCREENS)} screens in a flood of {MOST_AREAS} areas"
 
 
+def longest_files(yard: Yard, plant: Plant) -> tuple[str, ...]:
+    """Details and positions as long as they may be: responses of 1,000 letters, and 64 positions."""
+    told = "unit,scale,decimals,text,cause,consequence,response,respond"
+    cells = ",".join(["mol/m³/s", "10", "1", "t" * 80, *["word " * 190] * 3, "600"])
+    details = "\n".join([f"tag,{told}", *(f"{alarm.tag},{cells}" for alarm in plant.table.alarms)])
+    names = [f"Position of the control room, No {number:02}"[-40:] for number in range(64)]
+    positions = "".join(f'[[position]]\nname = "{name}"\n' for name in names)
+    return "--details", yard.write("long.csv", details + "\n"), "--positions", yard.write("long.toml", positions)
+
+
+def takes_all(page: Page) -> None:
+    """One of 64 positions is taken: at the others is nobody, which is said."""
+    page.click("#position")
+    page.find("#shifts button").click()
+    page.says("taken: ")
+    page.leave()
+    page.until("63 others", lambda: "Nobody is at Position of the control room, No 01," in page.of("#trouble"))
+
+
 def rows_of(page: Page, width: int, height: int, is_touched: bool) -> int:
     """How many whole rows a screen has, none of them with a tag that is cut."""
     screen(page, width, height, is_touched)
+    page.press(Keys.HOME)  # a row is selected, whose response is told
+    page.until("its response", lambda: "Response within 10 min: word word" in page.of("#detail"))
     page.leave()
     rows, cut, found = page.js(WHOLE), page.js(TAGS), page.js(CUT)
     check(

@@ -45,7 +45,8 @@ def tables(yard: Yard) -> None:
 
 
 def console(yard: Yard, port: int) -> None:
-    """Texts and responses are the operator's; a setpoint is typed in his unit, and a fraction isn't dropped."""
+    """Texts and responses are the operator's; a setpoint is typed in his unit, and a fraction isn't dropped; what
+    happened is told in it too."""
     if not shutil.which("tmux"):
         return
     own = yard.write("console.csv", TOLD.replace("TI-1,", "TI-101,"))
@@ -59,6 +60,8 @@ def console(yard: Yard, port: int) -> None:
         terminal.press("t")
         terminal.type("385.5")
         terminal.shows("TI-101 given setpoint 385.5 °C as action ")
+        terminal.press("8")
+        terminal.shows("TI-101         given setpoint 385.5 °C", "TI-101         value 380.0 °C")
         terminal.press("q")
 
 

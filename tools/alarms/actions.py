@@ -1,10 +1,13 @@
 """An accepted action, and how it stands in a line."""
 from dataclasses import dataclass
+from typing import Callable
 
 # The words of actions whose line has an alarm alone; an alarm and a number; an alarm, and ON or OFF.
 OF_ALARM = ("ACK", "RESET", "UNSHELVE")
 WITH_ARGUMENT = ("VAL", "SHELVE", "PRIO", "SETP")
 WITH_SWITCH = ("OOS", "DESIGN")
+# Those whose argument is a value of the plant.
+OF_VALUE = ("VAL", "SETP")
 # How many fields follow each word of an action.
 FIELDS = {"CLOCK": 1, **dict.fromkeys(OF_ALARM, 1), **dict.fromkeys(WITH_ARGUMENT + WITH_SWITCH, 2)}
 # What people read of each.
@@ -48,8 +51,9 @@ def action_of_words(number: int, word: str, *fields: str) -> Action:
     return Action(number, word, int(fields[0]), argument)
 
 
-def in_words(action: Action) -> str:
-    """What was done, for people."""
+def in_words(action: Action, told: Callable[[int], str] = str) -> str:
+    """What was done, for people; `told` says how they read a value of the plant."""
     if action.word in NUMBERED:
-        return NUMBERED[action.word].format(action.argument)
+        value = told(action.argument) if action.word in OF_VALUE else str(action.argument)
+        return NUMBERED[action.word].format(value)
     return WORDS.get(action.word) or SWITCHED[action.word, action.argument]

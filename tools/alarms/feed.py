@@ -1,7 +1,8 @@
 """A feed of process values, from lines, MQTT and Modbus TCP.
 
-    alm_feed --port P [--table TABLE.toml] [--map MAP.csv [--json] [--mqtt URL]] [--watch TAG] [--metrics PORT] [FILE]
-    alm_feed --map MAP.csv --show [--json] [--mqtt URL] [FILE]
+    alm_feed --port P [--table TABLE.toml] [--map MAP.csv [--details FILE] [--json] [--mqtt URL]] [--watch TAG]
+             [--metrics PORT] [FILE]
+    alm_feed --map MAP.csv --show [--details FILE] [--json] [--mqtt URL] [FILE]
 
 The lines are `tag,value`, by the tags of the plant, or with a map `name,value`. Without FILE they come from standard
 input:
@@ -13,7 +14,8 @@ input:
 
 With a map the lines are `name,value`, and the map says which name is which alarm, how values are scaled, what isn't
 one, and which alarm is on while a source is silent: value_map.py has its columns. A row whose alarm the plant hasn't is
-left out, and said. A value that is the last one again isn't sent. A text that is no value is never sent. A line may
+left out, and said. With --details values are in the operator's unit: a row of the map that has no scale goes by that of
+the file of details. A value that is the last one again isn't sent. A text that is no value is never sent. A line may
 also be JSON, with the source's quality and time, or a message as `mosquitto_sub -F %j` prints it, whose topic is the
 name; with --json nothing else is taken. So no payload passes for another topic's.
 

@@ -8,8 +8,9 @@ from typing import Optional
 
 from .arguments import Parser, add_port, add_table
 from .connecting import Place
+from .details_file import load_details
 from .ending import Fault
-from .feed_lines import Lines
+from .feed_lines import Lines, say
 from .feed_parts import parts_of, settings_of
 from .feed_process import start_apart
 from .inbox import Inbox, LineReader, open_lines
@@ -95,6 +96,12 @@ def new_words(page: Optional[str]) -> Parser:
     words.add_argument(
         "--map", metavar="MAP.csv", help="which name is which alarm: the columns are those of value_map.py"
     )
+    words.add_argument(
+        "--details",
+        metavar="FILE",
+        help="with --map: what operators are told of each alarm, whose scale counts where the map has none"
+        " (docs/TABLE.md)",
+    )
     words.add_argument("--json", action="store_true", help="with --map: lines are JSON, and nothing else is taken")
     add_mqtt(words)
     words.add_argument(
@@ -133,7 +140,7 @@ def read_arguments(words: Parser) -> argparse.Namespace:
     chosen = words.parse_args()
     if chosen.port is None and not chosen.show:
         words.error("one of the arguments --port --sockets is required")
-    for option in ("json", "mqtt", "show"):
+    for option in ("details", "json", "mqtt", "show"):
         if getattr(chosen, option) and not chosen.map:
             words.error(f"--{option} goes with --map")
     if bool(chosen.mqtt_cert) != bool(chosen.mqtt_key):
@@ -141,9 +148,18 @@ def read_arguments(words: Parser) -> argparse.Namespace:
     return chosen
 
 
+def load_map(path: str, details: Optional[str]) -> ValueMap:
+    """The map of a file, with the scales of a file of details; where both have one and they differ, that is said."""
+    scales = {tag: one.scale for tag, one in load_details(details).items()} if details else {}
+    values = ValueMap.load(path, scales)
+    for line in values.other_scales(scales):
+        say(line)
+    return values
+
+
 def read_options(chosen: argparse.Namespace) -> Options:
     """The options, with the files that they name. `Fault` or `OSError` says why one can't be read."""
-    values = ValueMap.load(chosen.map) if chosen.map else None
+    values = load_map(chosen.map, chosen.details) if chosen.map else None
     if values and chosen.watch in {row.tag for row in values.all_rows()}:
         raise Fault(f"{chosen.map} has a row for {chosen.watch}, which is to watch the feed")
     if chosen.show:  # beside a feed that runs, which its broker knows by another name

@@ -222,4 +222,4 @@ class ListScreen:
         name = f" {row.server.name:{self.width}}" if self.are_several else ""
         mark, action = "?" if self.is_old(row) else " ", entry.action
         head = f"{mark}{name} {moment(entry.moment):8.8} {action.number:>7} {who_asked(entry):7}"
-        return f"{head} {alarm_of(row).tag:14.14} {in_words(action)}"
+        return f"{head} {alarm_of(row).tag:14.14} {in_words(action, details_of(row).with_unit)}"

@@ -13,7 +13,8 @@ name      what the lines begin with, or a topic of MQTT, or any text for a regis
 tag       the alarm's tag in the plant
 as        `value`, or `design` for a source that suppresses the alarm: 1, on, true or 0, off, false. `value` if it is
           left out
-scale     a decimal number by which a value is multiplied, and then rounded to a whole number; 1 if it is left out
+scale     a decimal number by which a value is multiplied, and then rounded to a whole number; if it is left out, that
+          of the file of details (feed.py --details), else 1
 bad       what isn't a value, separated by |; a number by its value, so -9999.0 is -9999. Empty texts, NaN, infinite and
           other texts never are
 silent    a number of seconds: a source that has sent no good value for so long has none; a value that is older is none
@@ -33,7 +34,7 @@ import re
 from collections import defaultdict
 from dataclasses import dataclass, replace
 from decimal import MAX_EMAX, MIN_EMIN, ROUND_HALF_EVEN, Context, Decimal
-from typing import Iterable, Iterator, Optional
+from typing import Iterable, Iterator, Mapping, Optional
 
 from .ending import Fault
 from .feed_reading import BadValue
@@ -176,8 +177,8 @@ def numbers_of(words: Iterable[str]) -> frozenset[Decimal]:
     return frozenset(Decimal(word) for word in words if NUMBER.fullmatch(word))
 
 
-def read_rows(lines: Iterable[str]) -> Iterator[Row]:
-    """The rows of a file, its first line the columns."""
+def read_rows(lines: Iterable[str], scales: Mapping[str, Decimal]) -> Iterator[Row]:
+    """The rows of a file, its first line the columns. A row that leaves its scale out has its tag's in `scales`."""
     reader = csv.reader(lines)
     columns = [cell.strip().lower() for cell in next(reader, [])]
     unknown = [column for column in columns if column not in COLUMNS]
@@ -187,10 +188,10 @@ def read_rows(lines: Iterable[str]) -> Iterator[Row]:
         if any(cell.strip() for cell in cells):
             if len(cells) > len(columns):
                 raise ValueError(f"line {reader.line_num}: more cells than columns")
+            found = {column: "" for column in COLUMNS} | {column: cell.strip() for column, cell in zip(columns, cells)}
+            found["scale"] = found["scale"] or str(scales.get(found["tag"], ""))
             try:
-                yield read_row(
-                    {column: "" for column in COLUMNS} | {column: cell.strip() for column, cell in zip(columns, cells)}
-                )
+                yield read_row(found)
             except (ValueError, ArithmeticError) as error:
                 why = "no number" if isinstance(error, ArithmeticError) else error
                 raise ValueError(f"line {reader.line_num}: {why}") from None
@@ -213,11 +214,11 @@ class ValueMap:
         self.points = dict(self.points_by_name())
 
     @staticmethod
-    def load(path: str) -> "ValueMap":
-        """The map in a file; `NoMap` says why it is none."""
+    def load(path: str, scales: Optional[Mapping[str, Decimal]] = None) -> "ValueMap":
+        """The map in a file; `NoMap` says why it is none. `scales` are those of tags whose rows leave theirs out."""
         try:
             with open(path, encoding="utf-8-sig", newline="") as file:
-                return ValueMap(read_rows(file))
+                return ValueMap(read_rows(file, scales or {}))
         except OSError as error:
             raise NoMap(f"{path}: {error.strerror}") from None
         except (ValueError, csv.Error) as error:
@@ -256,6 +257,14 @@ class ValueMap:
             raise NoMap("; ".join(said[:1]) or "the map has no row")
         self.active = found
         return said
+
+    def other_scales(self, scales: Mapping[str, Decimal]) -> list[str]:
+        """Which rows have a scale that isn't their tag's in `scales`: a line each."""
+        return [
+            f"{row.tag}: {row.name} goes by a scale of {row.scale} in the map, and operators by {scales[row.tag]}"
+            for row in self.all_rows()
+            if not row.is_design and scales.get(row.tag, row.scale) != row.scale
+        ]
 
     def split(self, line: str) -> tuple[str, str]:
         """The name and the text of a line. Either may have commas, as a decimal comma is one: the longest name of the

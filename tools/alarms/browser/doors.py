@@ -44,6 +44,8 @@ class Session:
     role: str
     cookie: str = field(default_factory=lambda: secrets.token_urlsafe(32))
     key: str = field(default_factory=lambda: secrets.token_urlsafe(32))
+    # Whether its user has signed out.
+    is_over: bool = False
 
 
 class Door:
@@ -118,6 +120,20 @@ class Door:
             self.cookie, session.cookie, httponly=True, samesite="Strict", secure=self.is_secure, path="/"
         )
         return response
+
+    def take_back(self, response: web.Response) -> web.Response:
+        """The response with an end of the browser's cookie."""
+        response.set_cookie(
+            self.cookie, "", max_age=0, httponly=True, samesite="Strict", secure=self.is_secure, path="/"
+        )
+        return response
+
+    def end(self, session: Session, key: str) -> None:
+        """Ends the session of a user who signs out, by its key."""
+        if not secrets.compare_digest(key.encode(), session.key.encode()):
+            raise web.HTTPForbidden(text="no key\n")
+        session.is_over = True
+        self.sessions.pop(session.cookie, None)
 
     def words(self, session: Session) -> list[str]:
         """The actions that a session has by its role; where there are positions none by that."""

@@ -34,6 +34,7 @@ LATER = (
         "CREATE TABLE IF NOT EXISTS suppressed (name TEXT NOT NULL, tag TEXT NOT NULL, word TEXT NOT NULL, number BIGINT"
         " NOT NULL, moment BIGINT NOT NULL, user TEXT NOT NULL, reason TEXT NOT NULL, PRIMARY KEY (name, tag, word))"
     ),
+    "CREATE TABLE IF NOT EXISTS shown (name TEXT PRIMARY KEY, alarms TEXT NOT NULL)",
 )
 # Notes that are read again as a plant begins.
 MOST = 5000
@@ -207,6 +208,16 @@ class Notes:
         except sqlite3.Error as error:
             self.fault, rows = str(error), []
         return {(tag, word): Suppression(*rest) for tag, word, *rest in rows}
+
+    def is_other_table(self, alarms: str) -> bool:
+        """Whether the plant was shown before with other alarms than those of this sum, which is kept then."""
+        try:
+            before = self.connection.execute("SELECT alarms FROM shown WHERE name = ?", (self.name,)).fetchone()
+        except sqlite3.Error as error:
+            self.fault, before = str(error), None
+        if before != (alarms,):
+            self.write("INSERT OR REPLACE INTO shown (name, alarms) VALUES (?, ?)", [(self.name, alarms)])
+        return before not in (None, (alarms,))
 
     def write(self, statement: str, rows: list[tuple]) -> None:
         try:

@@ -1,17 +1,25 @@
 """Who suppressed each alarm of a plant, why and since when, whatever the journal still has.
 
-What began is kept beside the notes, by the alarm's tag and the action's word; so it outlasts a restart. A suppression
-that began while nobody followed the plant, and that its server no longer remembers, isn't known.
+What began is kept beside the notes, by the alarm's tag and the action's word; so it outlasts a restart, and a change of
+the table. A suppression that began while nobody followed the plant, and that its server no longer remembers, isn't
+known.
 """
+import hashlib
 from typing import Any
 
 from ..followed import FollowedPlant
 from ..replies import Entry
+from ..table_file import Alarm, fixed
 from .batch import BITS
 from .notes import Notes, Suppression
 
 # The letter of the flag that each word sets.
 LETTERS = {"SHELVE": "S", "OOS": "O", "DESIGN": "D"}
+
+
+def sum_of(alarms: list[Alarm]) -> str:
+    """A sum of what never changes of a plant's alarms."""
+    return hashlib.sha256(repr(fixed(alarms)).encode()).hexdigest()
 
 
 class Suppressions:
@@ -24,13 +32,17 @@ class Suppressions:
         self.fresh: dict[tuple[str, str], Suppression] = {}
 
     def begin(self, plant: FollowedPlant, moment: int) -> None:
-        """Takes what was kept of each flag that is set. What is ahead of the plant, at a moment, was of another
-        device."""
+        """Takes what was kept of each flag that is set. What is ahead of the plant, at a moment, was of another device:
+        but where the table was changed, by which states are brought and actions are counted anew."""
         kept, self.known, self.fresh = self.notes.suppressions(), {}, {}
+        is_changed = self.notes.is_other_table(sum_of(plant.table))
         for number, row in enumerate(plant.rows):
             for word, letter in LETTERS.items():
-                one = kept.get((plant.table[number].tag, word)) if letter in row.flags else None
-                if one and one.number <= plant.count and one.moment <= moment:
+                tag = plant.table[number].tag
+                one = kept.get((tag, word)) if letter in row.flags else None
+                if one and one.moment <= moment and one.number > plant.count and is_changed:
+                    one = self.fresh[tag, word] = one._replace(number=plant.count)
+                if one and one.moment <= moment and one.number <= plant.count:
                     self.known[number, word] = one
 
     def take(self, entry: Entry, plant: FollowedPlant) -> None:

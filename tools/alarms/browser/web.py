@@ -37,7 +37,7 @@ class Site:
 
     def __init__(self, door: Door, boards: Sequence[BrowserBoard], take: Callable[[Order], None], words: Words):
         self.door, self.boards, self.take, self.words = door, boards, take, words
-        self.readers: dict[Reader, str] = {}
+        self.readers: dict[Reader, Session] = {}
         # When each user's last stream ended: who had a position before this began may come again.
         holders = door.rules.desks.holders() if door.rules.desks else []
         self.left = {holder.user: time.monotonic() for holder in holders if holder.user}
@@ -52,6 +52,7 @@ class Site:
         site = web.Application(middlewares=[self.guard], client_max_size=MOST_BYTES)
         site.router.add_get("/", self.page)
         site.router.add_post("/sign-in", self.sign_in)
+        site.router.add_post("/sign-out", self.sign_out)
         site.router.add_get("/stream", self.stream)
         site.router.add_post("/do", self.do)
         site.router.add_get("/session", self.has_session)
@@ -121,6 +122,20 @@ class Site:
             return self.html("sign_in.html", 401)
         return self.door.give(self.see_other(), session) if self.door.is_proxied else self.entered(session)
 
+    async def sign_out(self, request: web.Request) -> web.Response:
+        """The session of a browser ends, and all its windows are told. Answered 401 the browser forgets a proxy's
+        password; with another user's it comes again, has no session, and is led to the list."""
+        session = self.door.session(request)
+        if session is None:
+            return self.see_other()
+        self.door.end(session, read_form(request.content_type, await body_of(request)).get("key", [""])[0])
+        self.left.pop(session.user, None)
+        for reader, one in self.readers.items():
+            if one is session:
+                reader.news.set()
+        reply = self.html("signed_out.html" if self.door.is_proxied else "sign_in.html", 401)
+        return self.door.take_back(reply)
+
     async def has_session(self, request: web.Request) -> web.Response:
         """Whether a request has a session: a proxy asks before it judges a password."""
         if self.door.session(request) is None:
@@ -134,7 +149,7 @@ class Site:
     async def stream(self, request: web.Request) -> web.StreamResponse:
         """What is shown, as events: first all of it, then what changes."""
         session = self.door.may_watch(request)
-        if collections.Counter(self.readers.values())[session.user] >= MOST_OF_USER:
+        if collections.Counter(self.users())[session.user] >= MOST_OF_USER:
             said = self.words.of(OWN_WINDOWS, user=session.user, most=MOST_OF_USER)
             raise web.HTTPServiceUnavailable(text=f"{said}\n")
         if len(self.readers) >= MOST_STREAMS:
@@ -144,16 +159,17 @@ class Site:
             headers={**HEADERS, "Content-Type": "text/event-stream", "X-Accel-Buffering": "no"}
         )
         reader = Reader(self.boards)
-        self.readers[reader] = session.user
+        self.readers[reader] = session
         try:
             await response.prepare(request)
             await response.write(self.hello(session).encode())
-            await self.tell(response, reader)
+            await self.tell(response, reader, session)
         except (ConnectionError, asyncio.TimeoutError):
             pass
         finally:
             del self.readers[reader]
-            self.left[session.user] = time.monotonic()
+            if not session.is_over:
+                self.left[session.user] = time.monotonic()
             reader.leave()
         return response
 
@@ -170,22 +186,28 @@ class Site:
         }
         return f"event: hello\ndata: {written(told | ({'key': session.key} if self.door.is_proxied else {}))}\n\n"
 
+    def users(self) -> list[str]:
+        """The user of each stream."""
+        return [session.user for session in self.readers.values()]
+
     def present(self) -> list[str]:
         """The users who have the list open, or had it just before: who has a position is at it."""
         now = time.monotonic()
         self.left = {user: left for user, left in self.left.items() if now - left < AWAY}
-        return sorted({*self.readers.values(), *self.left})
+        return sorted({*self.users(), *self.left})
 
-    async def tell(self, response: web.StreamResponse, reader: Reader) -> None:
-        """Tells a browser what is new, until it leaves."""
+    async def tell(self, response: web.StreamResponse, reader: Reader, session: Session) -> None:
+        """Tells a browser what is new, until it leaves or its user has signed out."""
         present: list[str] = []
-        while not self.is_ending:
+        while not self.is_ending and not session.is_over:
             text, now = reader.told(), self.present() if self.door.rules.desks else present
             if now != present:
                 text, present = f"event: present\ndata: {written(now)}\n\n{text}", now
             await asyncio.wait_for(response.write(text.encode()), PATIENCE)
             await asyncio.sleep(REST)
             await reader.wait()
+        if session.is_over:
+            await asyncio.wait_for(response.write(b"event: bye\ndata: {}\n\n"), PATIENCE)
 
     async def do(self, request: web.Request) -> web.Response:
         """An order, and what came of each of its alarms."""

@@ -12,6 +12,7 @@ import {prepareForm} from "./form.js";
 import {drawFilters, drawHead, drawPlants, drawTabs, preparePriorities, prepareTabs} from "./head.js";
 import {prepareHold} from "./hold.js";
 import {prepareKeys} from "./keys.js";
+import {prepareLeaving} from "./leaving.js";
 import {keepLook, prepareLooking, sortBy} from "./looking.js";
 import {drawNewcomers, prepareNewcomers} from "./newcomers.js";
 import {drawList, drawRows} from "./rows.js";
@@ -53,6 +54,7 @@ prepareSelection();
 prepareKeys();
 prepareHold();
 prepareShift();
+prepareLeaving();
 prepareNewcomers();
 prepareList();
 drawBy(arrange, drawHead, drawShift, drawPlants, drawFloods, drawHolding, drawTabs, drawFilters, drawDetail, drawList,

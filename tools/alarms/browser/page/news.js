@@ -4,6 +4,7 @@ import {leaveDialog} from "./asking.js";
 import {measureTags} from "./columns.js";
 import {touch} from "./draw.js";
 import {t} from "./language.js";
+import {bye} from "./leaving.js";
 import {link} from "./link.js";
 import {clearFilters, restoreLook} from "./looking.js";
 import {say} from "./messages.js";
@@ -64,7 +65,7 @@ function forget(/** @type {Plant} */ plant) {
 }
 
 /** @type {Record<string, (told: any) => void>} */
-const TOLD = {hello: greet, present: users => Object.assign(me, {present: users}),
+const TOLD = {hello: greet, present: users => Object.assign(me, {present: users}), bye,
   all: news => take(news, true), news: news => take(news, false)};
 
 /** Takes an event. */

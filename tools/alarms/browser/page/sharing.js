@@ -29,7 +29,7 @@ function copy(/** @type {string} */ kind, /** @type {any} */ told) {
   else if (kind === "all") {
     const rows = new Map(told.rows.map((/** @type {any[]} */ row) => [row[0], row]));
     copies.set(told.plant, {...told, rows});
-  } else {
+  } else if (kind === "news") {
     const one = copies.get(told.plant);
     for (const row of told.rows) one.rows.set(row[0], row);
     one.events = one.events.concat(told.events).slice(-MOST_EVENTS);

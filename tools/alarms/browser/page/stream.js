@@ -7,8 +7,8 @@ import {begin, shareLink} from "./sharing.js";
 import {me} from "./state.js";
 import {SILENCE} from "./trouble.js";
 
-// Milliseconds between two tries; and where too many have asked for the page.
-const AGAIN = 700, LOCKED = 10000;
+// Milliseconds between two tries; where somebody signed out; and where too many have asked for the page.
+const AGAIN = 700, LEFT = 2000, LOCKED = 10000;
 
 // Each stream that is begun is another one; what an older one left to be done isn't done.
 const stream = {run: 0, stop: () => {}};
@@ -55,10 +55,18 @@ async function listen(/** @type {AbortSignal} */ signal) {
   }
 }
 
+/** Whether a proxy's user has signed out. The page would ask for a password then, again and again: so another window
+ * lets this one in. */
+function hasLeft() {
+  if (link.signedOut) shareLink();
+  return link.signedOut && kept("key") === null;
+}
+
 /** After a restart a proxy's user is let in again by the page; a token's has to sign in. */
 async function enter(/** @type {number} */ run) {
   let status = 0;
   if (stream.run !== run) return;
+  if (hasLeft()) return void setTimeout(() => stream.run === run && connect(), LEFT);
   try {
     // a proxy counts who asks for the page, and not for its parts
     if ((await fetch("/icon.svg", {signal: within(REPLY)})).ok) {

@@ -1,6 +1,7 @@
 // Why the list may be old, and what else an operator should be told of.
 import {$, put} from "./dom.js";
 import {draw} from "./draw.js";
+import {kept} from "./kept.js";
 import {t, w} from "./language.js";
 import {link} from "./link.js";
 import {untaken} from "./shift.js";
@@ -15,7 +16,10 @@ export const SILENCE = 1500, OLD = 1;
 /** Why nothing is heard of alm_browser itself; empty while something is. */
 function silentSince() {
   const silent = performance.now() - link.heard;
-  if (link.signedOut) return t("SIGNED OUT, the list may be old. Open the address that alm_browser printed last.");
+  if (link.signedOut) {
+    return kept("key") === null ? t("SIGNED OUT, the list may be old. Load the page again to sign in.")
+      : t("SIGNED OUT, the list may be old. Open the address that alm_browser printed last.");
+  }
   if (silent <= SILENCE) return "";
   if (link.refused) return t("NO LIST, what is shown may be old: {why}", {why: t(link.refused)});
   return t("NO SERVER, the list may be old: nothing heard for {seconds} s", {seconds: Math.round(silent / 1000)});

@@ -1,10 +1,10 @@
-"""A plain model of the worked table's alarms, by docs/PROTOCOL.md: what each good line of a desk is answered.
+"""A plain model of a table's alarms, by docs/PROTOCOL.md: what each good line of a desk is answered.
 
-A part of lines.py. It has no table of states: an alarm has a condition, is unacknowledged or not, and asks for the
-operator or not. Its word follows from these.
+It has no table of states: an alarm has a condition, is unacknowledged or not, and asks for the operator or not. Its
+word follows from these.
 """
 
-# Kinds, setpoints, deadbands, priorities, areas, longest shelvings, latching and tags.
+# The worked table: kinds, setpoints, deadbands, priorities, areas, longest shelvings, latching and tags.
 TABLE = [
     ("HIGH", 800, 10, 1, 0, 3600, "OFF", "TI-101"),
     ("LOW", 100, 5, 2, 0, 3600, "OFF", "PI-102"),
@@ -52,12 +52,12 @@ class Alarm:
 
 
 class Plant:
-    """The plant of the worked table, from its first line on."""
+    """The plant of a table, from its first line on; of the worked one where none is given."""
 
-    def __init__(self):
-        self.now, self.count, self.orders = 0, 0, 0
-        self.alarms = [Alarm(*attributes) for attributes in TABLE]
-        self.flooded, self.annunciated = [False] * AREAS, [[] for _ in range(AREAS)]
+    def __init__(self, table=TABLE, areas=AREAS):
+        self.now, self.count, self.orders, self.areas = 0, 0, 0, areas
+        self.alarms = [Alarm(*attributes) for attributes in table]
+        self.flooded, self.annunciated = [False] * areas, [[] for _ in range(areas)]
         self.begin()
 
     def begin(self):
@@ -173,7 +173,7 @@ class Plant:
         self.annunciated[alarm.area].append(self.now)
 
     def settle(self):
-        for area in range(AREAS):
+        for area in range(self.areas):
             self.annunciated[area] = [moment for moment in self.annunciated[area] if self.now < moment + 600]
             window = len(self.annunciated[area])
             self.flooded[area] = window > 10 or (self.flooded[area] and window >= 5)
@@ -209,7 +209,7 @@ class Plant:
         return [len(self.annunciated[numbers[0]]), int(self.flooded[numbers[0]])]
 
     def look_plant(self, _words, _numbers):
-        return [self.now, len(self.alarms), AREAS]
+        return [self.now, len(self.alarms), self.areas]
 
     def look_attr(self, _words, numbers):
         return self.alarms[numbers[0]].attributes()
