@@ -13,7 +13,7 @@ use alm_moments::{Recorder, RunId};
 use alm_plant::Plant;
 use alm_shared::{NewRun, open_board};
 use alm_store::Store;
-use alm_types::{AlarmId, Answer, Query, Refusal};
+use alm_types::{AlarmId, Answer, Event, Query, Refusal};
 use std::alloc::Global;
 use std::marker::Brand;
 use std::sync::Wait;
@@ -113,6 +113,18 @@ fn a_look_after_the_owner_is_gone(rt: HostRuntime) -> Result<(), Fail> {
 /// What is reported of a plant without actions after nothing, 0, 7 and the last number, and of 0 after the board's end.
 type Told = [Result<Recalled, Refusal>; 5];
 
+/// What happened after a number; refused for want of memory if what may be reported has no room.
+fn recalled_after<L: Recall>(
+    look: &mut L,
+    after: Option<u64>,
+    events: &mut Vec<Event>,
+) -> Result<Recalled, Refusal> {
+    if events.capacity() < MOST_TOLD {
+        return Err(Refusal::OutOfMemory);
+    }
+    look.recall(after, events)
+}
+
 /// The same over a store, with how many events were reported last. `None` if out of memory.
 fn recalled_in_turn<J: RunId, K: Store, R: Wait>(
     rt: &R,
@@ -141,12 +153,12 @@ fn recalled_in_turn<J: RunId, K: Store, R: Wait>(
         drop(board.take(rt));
         return None;
     };
-    let first = look.recall(None, &mut events);
-    let zero = look.recall(Some(0), &mut events);
-    let later = look.recall(Some(7), &mut events);
-    let last = look.recall(Some(u64::MAX), &mut events);
+    let first = recalled_after(look, None, &mut events);
+    let zero = recalled_after(look, Some(0), &mut events);
+    let later = recalled_after(look, Some(7), &mut events);
+    let last = recalled_after(look, Some(u64::MAX), &mut events);
     drop(board.take(rt));
-    let behind = look.recall(Some(0), &mut events);
+    let behind = recalled_after(look, Some(0), &mut events);
     Some(([first, zero, later, last, behind], events.len()))
 }
 
