@@ -81,11 +81,14 @@ class Named:
     def ask(number, said):
         """One connection, whose action is answered by its number."""
         line, reply = value(number)
-        with socket.socket(socket.AF_UNIX) as client:
-            client.settimeout(PATIENCE)
-            client.connect(f"s/{FIELD}")
-            client.sendall(b"1 " + line + b"\n")
-            came = client.makefile("rb").readline()
+        try:
+            with socket.socket(socket.AF_UNIX) as client:
+                client.settimeout(PATIENCE)
+                client.connect(f"s/{FIELD}")
+                client.sendall(b"1 " + line + b"\n")
+                came = client.makefile("rb").readline()
+        except OSError as error:
+            raise Wrong(f"{said} action {number} isn't answered: {error}") from None
         check(came == b"1 " + reply + b"\n", said, "action", number, "is answered", came)
 
     def named(self, length):

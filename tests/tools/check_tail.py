@@ -10,7 +10,7 @@ import shutil
 import signal
 import time
 
-from archives import archiver, rows_of, run_tool
+from archives import archiver, last_archived, rows_of, run_tool
 from lib.drawn_plants import new_device
 from alarms.client import CLOCK, Client
 from lib.program import check
@@ -104,7 +104,7 @@ def while_running(yard: Yard, _count: int) -> str:
     running = archiver(site.device, site.database, site.port)
     await_true(
         "the archive",
-        lambda: os.path.exists(site.database) and bool(site.numbers(1)) and site.numbers(1)[-1] == max(site.accepted),
+        lambda: os.path.exists(site.database) and last_archived(site.database) == max(site.accepted),
     )
     running.send_signal(signal.SIGSTOP)
     time.sleep(0.3)

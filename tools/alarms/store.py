@@ -142,6 +142,12 @@ class Store:
             self.run(f"CREATE TABLE {table} ({columns}){suffix if 'PRIMARY KEY (' in columns else ''}")
 
     def make_tables(self) -> None:
+        """Makes all tables or none, unless another archiver has made them meanwhile."""
+        self.commit()
+        if self.mark == "?":
+            self.run("BEGIN IMMEDIATE")
+            if self.has_tables():
+                return
         self.make(TABLES)
         for statement in (HISTORY, *INDEXES):
             self.run(statement)
