@@ -113,7 +113,7 @@ fn a_look_after_the_owner_is_gone(rt: HostRuntime) -> Result<(), Fail> {
 /// What is reported of a plant without actions after nothing, 0, 7 and the last number, and of 0 after the board's end.
 type Told = [Result<Recalled, Refusal>; 5];
 
-/// What happened after a number; refused for want of memory if what may be reported has no room.
+/// What happened after a number; refused as out of memory if what may be reported has no room.
 fn recalled_after<L: Recall>(
     look: &mut L,
     after: Option<u64>,
