@@ -103,8 +103,7 @@ def while_running(yard: Yard, _count: int) -> str:
     site.ask(60)
     running = archiver(site.device, site.database, site.port)
     await_true(
-        "the archive",
-        lambda: os.path.exists(site.database) and last_archived(site.database) == max(site.accepted),
+        "the archive", lambda: os.path.exists(site.database) and last_archived(site.database) == max(site.accepted)
     )
     running.send_signal(signal.SIGSTOP)
     time.sleep(0.3)
