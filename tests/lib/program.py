@@ -11,6 +11,7 @@ import socket
 import subprocess
 import sys
 import tempfile
+import time
 import threading
 
 from .places import EXAMPLES, TESTS
@@ -255,7 +256,12 @@ class Desk:
 
 
 def finish(name, folder, said):
-    shutil.rmtree(folder)
+    for _ in range(50):
+        try:  # a process that was killed may still leave a file there
+            shutil.rmtree(folder)
+            break
+        except OSError:
+            time.sleep(0.1)
     print(f"{name}: {said}")
 
 
