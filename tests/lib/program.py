@@ -11,8 +11,8 @@ import socket
 import subprocess
 import sys
 import tempfile
-import time
 import threading
+import time
 
 from .places import EXAMPLES, TESTS
 
