@@ -278,13 +278,17 @@ def formatted_again(yard: Yard, step: int) -> str:
     return f"{looks} looks at a device that was formatted again"
 
 
+# So many actions make more than five checkpoints.
+SOME = 500
+
+
 def running(yard: Yard, step: int) -> str:
     """A device that a server goes on with, checkpoint after checkpoint, is never called damaged."""
     device, looks, ends = yard.format("running.device", PLANT), 0, time.monotonic() + max(3, 30 // step)
     server = yard.serve(device)
     with Client.connect(server.port, CLOCK) as clock, concurrent.futures.ThreadPoolExecutor(1) as pool:
         asked = pool.submit(ask_until, clock, ends)
-        while time.monotonic() < ends:
+        while not asked.done():
             reading = read_device(device)
             check(reading.place is None, "of a device that goes on it says", *reading.wrong())
             looks += 1
@@ -302,9 +306,9 @@ def running(yard: Yard, step: int) -> str:
 
 
 def ask_until(clock: Client, ends: float) -> int:
-    """Moves a clock until a moment; how often."""
+    """Moves a clock until a moment, and for some checkpoints on a slow machine; how often."""
     count = 0
-    while time.monotonic() < ends:
+    while time.monotonic() < ends or count < SOME:
         count = clock.clock(count + 1)
     return count
 
