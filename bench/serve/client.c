@@ -1,23 +1,29 @@
-/* The clients of the bench, in one thread: the same lines for either server.
-     client PORT closed SECONDS CLIENTS WINDOW           each asks again as soon as fewer than so many of its requests are unanswered
-     client PORT open SECONDS CLIENTS RATE regular       requests come at their own times, so many a second in all, at the same distance
-     client PORT open SECONDS CLIENTS RATE random        the same, each at a drawn moment of a drawn client
-     client PORT idle SECONDS                            18 connections that say nothing
+/* The clients of the bench, the same lines for either server.
+     client PORT closed SECONDS CLIENTS WINDOW [THREADS]   each asks again as soon as fewer than so many of its requests
+                                                           are unanswered; one thread serves them all, or so many do
+     client PORT open SECONDS CLIENTS RATE regular         requests come at their own times, so many a second in all,
+                                                           at the same distance
+     client PORT open SECONDS CLIENTS RATE random          the same, each at a drawn moment of a drawn client
+     client PORT idle SECONDS                              18 connections that say nothing
    With `redis` as the last word of closed it asks a Redis in place of ours: all at one port, each request a SET.
-   One client is the feed, four are the feed and three consoles, 18 all slots. The first tenth of the seconds isn't counted. closed and open
-   print: requests a second; their 50th and 99th latency and the greatest, in microseconds; how late the client itself was for 99 of 100;
-   how many requests there were, and how many were accepted. A request's latency begins where it was due, so that one who waits to be sent
-   counts as one who waits for its reply.
-   Each line is accepted in whatever order the slots come, so that either server has the same to do: the clock moves, the feed's alarm comes
-   and goes, and each console takes an alarm of its own out of service and back. Replies have to come in the order of the lines. */
+   One client is the feed, four are the feed and three consoles, 18 all slots. The first tenth of the seconds isn't
+   counted. closed and open print: requests a second; their 50th and 99th latency and the greatest, in microseconds; how
+   late the client itself was for 99 of 100; how many requests there were, and how many were accepted; how many
+   microseconds of the processor the client took for one. A request's latency begins where it was due, so that one who
+   waits to be sent counts as one who waits for its reply.
+   Each line is accepted in whatever order the slots come, so that either server has the same to do: the clock moves,
+   the feed's alarm comes and goes, and each console takes an alarm of its own out of service and back. Replies have to
+   come in the order of the lines. */
 #define _GNU_SOURCE
 #include <arpa/inet.h>
 #include <math.h>
 #include <netinet/tcp.h>
 #include <poll.h>
+#include <pthread.h>
 #include <stdio.h>
 #include <stdlib.h>
 #include <string.h>
+#include <sys/resource.h>
 #include <sys/socket.h>
 #include <time.h>
 #include <unistd.h>
@@ -37,10 +43,16 @@ struct times {
     long count, room;
 };
 
+/* Clients that one thread serves, and the times of their requests. */
+struct group {
+    int from, to;
+    long window;
+    struct times latency, lateness;
+};
+
 static struct client clients[SLOTS];
 static int count, asks_redis;
-static double counted; /* the moment from which on requests are counted */
-static struct times latency, lateness;
+static double counted, ending; /* requests are counted from the one moment on, and come until the other */
 
 static void fail(const char *what) {
     perror(what);
@@ -105,14 +117,14 @@ static void make_due(struct client *client, double at) {
 }
 
 /* Sends what is due, in as few writes as there is room for. */
-static void send_due(struct client *client) {
+static void send_due(struct group *group, struct client *client) {
     char text[ROOM];
     while (client->sent < client->due) {
         double time = now();
         int length = 0;
         while (client->sent < client->due && length < ROOM - LINE) {
             double due = client->at[client->sent % OUT];
-            note(&lateness, due, time - due);
+            note(&group->lateness, due, time - due);
             length += put_line(text + length, client->slot, client->sent++);
         }
         if (write(client->socket, text, length) != length) fail("write");
@@ -120,7 +132,7 @@ static void send_due(struct client *client) {
 }
 
 /* Reads what has come and judges each whole reply. */
-static void take_replies(struct client *client) {
+static void take_replies(struct group *group, struct client *client) {
     int got = read(client->socket, client->reply + client->held, ROOM - client->held);
     if (got <= 0) fail("read");
     double time = now();
@@ -129,7 +141,7 @@ static void take_replies(struct client *client) {
         char *word = from;
         if (!asks_redis && strtol(from, &word, 10) != client->answered) fail("a reply out of order");
         double due = client->at[client->answered++ % OUT];
-        note(&latency, due, time - due);
+        note(&group->latency, due, time - due);
         client->accepted += !strncmp(word, asks_redis ? "+OK\r" : " OK ", 4);
         from = end + 1;
     }
@@ -138,70 +150,113 @@ static void take_replies(struct client *client) {
 }
 
 /* Waits for a reply, at most until a moment. */
-static void wait_until(double moment) {
+static void wait_until(struct group *group, double moment) {
     struct pollfd polls[SLOTS];
+    int from = group->from, here = group->to - from;
     double rest = fmax(moment - now(), 0);
     struct timespec time = {rest, (rest - floor(rest)) * 1e9};
-    for (int i = 0; i < count; i++) polls[i] = (struct pollfd){.fd = clients[i].socket, .events = POLLIN};
-    if (ppoll(polls, count, &time, NULL) < 0) fail("ppoll");
-    for (int i = 0; i < count; i++)
-        if (polls[i].revents) take_replies(&clients[i]);
+    for (int i = 0; i < here; i++) polls[i] = (struct pollfd){.fd = clients[from + i].socket, .events = POLLIN};
+    if (ppoll(polls, here, &time, NULL) < 0) fail("ppoll");
+    for (int i = 0; i < here; i++)
+        if (polls[i].revents) take_replies(group, &clients[from + i]);
 }
 
-static int all_answered(void) {
-    for (int i = 0; i < count; i++)
+static int all_answered(const struct group *group) {
+    for (int i = group->from; i < group->to; i++)
         if (clients[i].answered < clients[i].due) return 0;
     return 1;
 }
 
-static void closed(double end, long window) {
-    for (double time = now(); time < end || !all_answered(); time = now()) {
-        if (time > end + 10) fail("no reply in ten seconds");
-        for (int i = 0; i < count; i++) {
+static void *closed(void *given) {
+    struct group *group = given;
+    for (double time = now(); time < ending || !all_answered(group); time = now()) {
+        if (time > ending + 10) fail("no reply in ten seconds");
+        for (int i = group->from; i < group->to; i++) {
             double at = now();
-            while (at < end && clients[i].due - clients[i].answered < window) make_due(&clients[i], at);
-            send_due(&clients[i]);
+            while (at < ending && clients[i].due - clients[i].answered < group->window) make_due(&clients[i], at);
+            send_due(group, &clients[i]);
         }
-        wait_until(time + 10);
+        wait_until(group, time + 10);
     }
+    return NULL;
 }
 
-static void open_loop(double begin, double end, double rate, int drawn) {
+/* Runs closed in each group's thread, the first one in this. */
+static void closed_in(struct group *groups, int threads) {
+    pthread_t made[SLOTS];
+    for (int i = 1; i < threads; i++)
+        if (pthread_create(&made[i], NULL, closed, &groups[i])) fail("thread");
+    closed(&groups[0]);
+    for (int i = 1; i < threads; i++) pthread_join(made[i], NULL);
+}
+
+static void open_loop(struct group *group, double begin, double rate, int drawn) {
     double next = begin;
     long turn = 0;
     srand48(1);
-    for (double time = now(); time < end || !all_answered(); time = now()) {
-        if (time > end + 10) fail("no reply in ten seconds");
-        while (next <= time && next < end) {
+    for (double time = now(); time < ending || !all_answered(group); time = now()) {
+        if (time > ending + 10) fail("no reply in ten seconds");
+        while (next <= time && next < ending) {
             make_due(&clients[(drawn ? lrand48() : turn++) % count], next);
             next += drawn ? -log(1 - drand48()) / rate : 1 / rate;
         }
-        for (int i = 0; i < count; i++) send_due(&clients[i]);
-        wait_until(next < end ? next : time + 10);
+        for (int i = 0; i < count; i++) send_due(group, &clients[i]);
+        wait_until(group, next < ending ? next : time + 10);
     }
 }
 
-static void print_figures(double end) {
+/* Adds times to others. */
+static void add_times(struct times *all, const struct times *more) {
+    all->room = all->count + more->count;
+    all->took = realloc(all->took, (all->room + 1) * sizeof *all->took);
+    if (!all->took) fail("realloc");
+    if (more->count) memcpy(all->took + all->count, more->took, more->count * sizeof *more->took);
+    all->count = all->room;
+}
+
+static double processor_time(void) {
+    struct rusage used;
+    getrusage(RUSAGE_SELF, &used);
+    return (used.ru_utime.tv_sec + used.ru_stime.tv_sec) * 1e6 + used.ru_utime.tv_usec + used.ru_stime.tv_usec;
+}
+
+static void print_figures(const struct group *groups, int threads) {
     long all = 0, accepted = 0;
+    double took = processor_time();
+    struct times latency = {0}, lateness = {0};
+    for (int i = 0; i < threads; i++) {
+        add_times(&latency, &groups[i].latency);
+        add_times(&lateness, &groups[i].lateness);
+    }
     for (int i = 0; i < count; i++) all += clients[i].due, accepted += clients[i].accepted;
     qsort(latency.took, latency.count, sizeof(double), by_size);
     qsort(lateness.took, lateness.count, sizeof(double), by_size);
-    printf("%.0f %.0f %.0f %.0f %.0f %ld %ld\n", latency.count / (end - counted), hundredth(&latency, 50), hundredth(&latency, 99),
-           hundredth(&latency, 100), hundredth(&lateness, 99), all, accepted);
+    printf("%.0f %.0f %.0f ", latency.count / (ending - counted), hundredth(&latency, 50), hundredth(&latency, 99));
+    printf("%.0f %.0f ", hundredth(&latency, 100), hundredth(&lateness, 99));
+    printf("%ld %ld %.2f\n", all, accepted, took / (all ? all : 1));
 }
 
 int main(int words, char **word) {
+    static struct group groups[SLOTS];
     if (words < 4) return 1;
     double seconds = atof(word[3]);
     asks_redis = !strcmp(word[words - 1], "redis");
     if (asks_redis) words--;
-    int is_open = words == 7 && !strcmp(word[2], "open"), is_closed = words == 6 && !strcmp(word[2], "closed");
+    int is_open = words == 7 && !strcmp(word[2], "open");
+    int is_closed = (words == 6 || words == 7) && !strcmp(word[2], "closed");
+    int threads = is_closed && words == 7 ? atoi(word[6]) : 1;
     dial_all(atoi(word[1]), is_open || is_closed ? atoi(word[4]) : SLOTS);
-    double begin = now(), end = begin + seconds;
+    if (threads < 1 || threads > count) return 1;
+    for (int i = 0; i < threads; i++) {
+        groups[i] = (struct group){.from = count * i / threads, .to = count * (i + 1) / threads};
+        groups[i].window = is_closed ? atol(word[5]) : 0;
+    }
+    double begin = now();
+    ending = begin + seconds;
     counted = begin + seconds / 10;
-    if (is_closed) closed(end, atol(word[5]));
-    else if (is_open) open_loop(begin, end, atof(word[5]), !strcmp(word[6], "random"));
+    if (is_closed) closed_in(groups, threads);
+    else if (is_open) open_loop(&groups[0], begin, atof(word[5]), !strcmp(word[6], "random"));
     else sleep(seconds);
-    if (is_open || is_closed) print_figures(end);
+    if (is_open || is_closed) print_figures(groups, threads);
     return 0;
 }

@@ -72,8 +72,9 @@ def await_port(port: int, process: subprocess.Popen[bytes]) -> None:
 
 def figures_of(line: str, cpu: float) -> dict[str, float]:
     """The figures that client.c and sqlite.c print, with seconds of the processor in all."""
-    rate, p50, p99, greatest, late, requests, *_ = map(float, line.split())
+    rate, p50, p99, greatest, late, requests, _, *client = map(float, line.split())
     return {
+        **({"client": client[0]} if client else {}),
         "rate": rate,
         "p50": p50,
         "p99": p99,
@@ -92,17 +93,17 @@ class Others:
     port: int
     environment: dict[str, str]
 
-    def measure(self, name: str, clients: int, window: int, seconds: float) -> dict[str, float]:
-        """A turn of a store: so many clients, each with so many requests out."""
+    def measure(self, name: str, load: list[str], seconds: float) -> dict[str, float]:
+        """A turn of a store: so many clients, each with so many requests out, and for redis the client's threads."""
         room = self.folder / f"{name}.room"
         shutil.rmtree(room, ignore_errors=True)
         room.mkdir()
         room.chmod(0o777)
-        return {"redis": self.redis, "sqlite": self.sqlite, "postgres": self.postgres}[name](
-            room, clients, window, seconds
-        )
+        if name == "redis":
+            return self.redis(room, load, seconds)
+        return {"sqlite": self.sqlite, "postgres": self.postgres}[name](room, int(load[0]), int(load[1]), seconds)
 
-    def redis(self, room: pathlib.Path, clients: int, window: int, seconds: float) -> dict[str, float]:
+    def redis(self, room: pathlib.Path, load: list[str], seconds: float) -> dict[str, float]:
         """`appendfsync always`: what came together is synced once, and then answered."""
         words = ["redis-server", "--port", str(self.port), "--dir", str(room), "--appendonly", "yes"]
         words += ["--appendfsync", "always", "--save", "", "--bind", "127.0.0.1"]
@@ -110,8 +111,8 @@ class Others:
             try:
                 await_port(self.port, server)
                 before = cpu_of(server.pid)
-                load = [str(self.folder / "client"), str(self.port), "closed", str(seconds), str(clients), str(window)]
-                printed = subprocess.run([*CLASS, *load, "redis"], stdout=subprocess.PIPE, text=True, check=True).stdout
+                words = [str(self.folder / "client"), str(self.port), "closed", str(seconds), *load, "redis"]
+                printed = subprocess.run([*CLASS, *words], stdout=subprocess.PIPE, text=True, check=True).stdout
                 return figures_of(printed, cpu_of(server.pid) - before)
             finally:
                 server.kill()

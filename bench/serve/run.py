@@ -6,24 +6,25 @@
 
 PROGRAM is a build of alm_server, `plain` the server in C beside this file, `gather` the same where it waits for those
 whom it answered; without names it is this repository's build beside plain. The others are what Debian has of them, each
-set so that an answer is durable (others.py); they take the closed loads alone. The last one is what the others are
-compared with. Each fdatasync sleeps 0.2 ms (sync.c), and with --disk longer, a microsecond for so many bytes. Servers
-and clients run under one scheduling class (SCHED_RR), each load of each server on a new device, the servers in turn,
-another of them first in each turn: who comes behind the last one of the turn before is some 2 % slower. A turn of which
-the host stole more than 5 % is made again, twice at most.
+set so that an answer is durable (others.py); they take the closed loads alone, redis apart_18 too. The last one is what
+the others are compared with. Each fdatasync sleeps 0.2 ms (sync.c), and with --disk longer, a microsecond for so many
+bytes. Servers and clients run under one scheduling class (SCHED_RR), each load of each server on a new device, the
+servers in turn, another of them first in each turn: who comes behind the last one of the turn before is some 2 %
+slower. A turn of which the host stole more than 5 % is made again, twice at most.
 
 Loads (--loads takes names, and beginnings of names): closed_1, closed_4, closed_18 clients with one request out;
-closed_18_64 with 64; open_CLIENTS_RATE_regular and _random, requests at their own times, so many a second in all; idle,
-18 connections that say nothing, whose cpu is per cent of a core. --largest: 16,384 alarms in 64 areas and segments of
-452,651 bytes, else 16 alarms and segments of 16 MiB.
+closed_18_64 with 64; apart_18, closed_18 with a thread for each client, where one thread serves all in the others;
+open_CLIENTS_RATE_regular and _random, requests at their own times, so many a second in all; idle, 18 connections that
+say nothing, whose cpu is per cent of a core. --largest: 16,384 alarms in 64 areas and segments of 452,651 bytes, else
+16 alarms and segments of 16 MiB.
 
 --clock notes when each call of a server begins and ends (clock.c), and says from the end of a batch's last sync how
 long it takes to the next batch's write, in tenths, and to the first and last reply and request in between (rounds.py).
 --picture draws the medians as SVG.
 
-A line for each load and server: medians of the turns (the memory and the steal too); beside the last server's, requests
-a second, p50, p99 and the processor's time a request; beside p50 of its own closed_1, p50 and p99. Each turn stands on
-standard error.
+A line for each load and server: medians of the turns (the memory, the microseconds of the processor that the client
+itself took for a request, and the steal too); beside the last server's, requests a second, p50, p99 and the processor's
+time a request; beside p50 of its own closed_1, p50 and p99. Each turn stands on standard error.
 """
 import argparse
 import collections
@@ -48,12 +49,13 @@ BUILT = TOP / "crates/alm_server/out/alm_server"
 STEAL_LIMIT, TRIES = 5.0, 3
 CLASS = ["chrt", "-r", "10"]
 OTHERS = ("redis", "sqlite", "postgres")
-FIGURES = ("rate", "p50", "p99", "greatest", "late", "cpu", "batch", "memory", "steal")
+FIGURES = ("rate", "p50", "p99", "greatest", "late", "cpu", "batch", "memory", "client", "steal")
 LOADS = {
     "closed_1": "closed 1 1",
     "closed_4": "closed 4 1",
     "closed_18": "closed 18 1",
     "closed_18_64": "closed 18 64",
+    "apart_18": "closed 18 1 18",
     **{
         f"open_{clients}_{rate}_{kind}": f"open {clients} {rate} {kind}"
         for kind in ("regular", "random")
@@ -92,7 +94,7 @@ class Bench:
 
     def compile(self, largest: bool, programs: list[str]) -> None:
         sources = {
-            "client": ["client.c", "-lm"],
+            "client": ["client.c", "-lm", "-pthread"],
             "plain": ["plain.c", "-pthread"],
             "sync.so": ["sync.c", "clock.c", "-shared", "-fPIC"],
         }
@@ -153,7 +155,7 @@ class Bench:
         """A turn of a store that others have made."""
         before = stolen()
         others = Others(self.folder, self.port, {**os.environ, **self.preloaded()})
-        figures = others.measure(name, int(load[1]), int(load[2]), seconds)
+        figures = others.measure(name, load[1:], seconds)
         after = stolen()
         steal = 100 * (after[0] - before[0]) / max(1, after[1] - before[1])
         return {**figures, **(self.rounds() if name == "redis" else {}), "steal": steal}
@@ -171,9 +173,10 @@ class Bench:
         syncs, cpu = self.syncs(), server.cpu()
         run = subprocess.run(self.client(load[0], seconds, *load[1:]), stdout=subprocess.PIPE, text=True)
         if run.returncode:  # the server can't keep up, and the client has said so
-            return {"rate": 0.0, **dict.fromkeys(("p50", "p99", "greatest", "late", "cpu", "batch"), math.inf)}
+            figures = ("p50", "p99", "greatest", "late", "cpu", "batch", "client")
+            return {"rate": 0.0, **dict.fromkeys(figures, math.inf)}
         cpu, syncs = server.cpu() - cpu, self.syncs() - syncs
-        rate, p50, p99, greatest, late, requests, accepted = map(float, run.stdout.split())
+        rate, p50, p99, greatest, late, requests, accepted, client = map(float, run.stdout.split())
         if accepted != requests:
             sys.exit(f"{load}: {accepted} of {requests} accepted")
         return {
@@ -184,6 +187,7 @@ class Bench:
             "late": late,
             "cpu": 1e6 * cpu / requests,
             "batch": 2 * accepted / max(1, syncs),
+            "client": client,
         }
 
 
@@ -248,13 +252,13 @@ def print_table(names: list[str], turns: Turns) -> None:
     medians = medians_of(turns)
     print(
         f"{'load':26} {'server':8} {'a second':>9} {'p50 us':>7} {'p99 us':>7} {'greatest':>8} {'late99':>6}"
-        f" {'cpu us':>7} {'a batch':>7} {'MB':>5} {'steal%':>6} |"
+        f" {'cpu us':>7} {'a batch':>7} {'MB':>5} {'client':>6} {'steal%':>6} |"
         f" {'rate':>5} {'p50':>5} {'p99':>5} {'cpu':>5} beside {names[-1]} | {'p50':>5} {'p99':>6} beside a lone p50"
     )
     for (load, name), figures in medians.items():
         cells = [
             f"{figures[figure]:{width}.{places}f}" if figure in figures else "-".rjust(width)
-            for figure, width, places in zip(FIGURES, (9, 7, 7, 8, 6, 7, 7, 5, 6), (0, 0, 0, 0, 0, 2, 1, 1, 1))
+            for figure, width, places in zip(FIGURES, (9, 7, 7, 8, 6, 7, 7, 5, 6, 6), (0, 0, 0, 0, 0, 2, 1, 1, 1, 1))
         ]
         other, lone = medians.get((load, names[-1])), medians.get(("closed_1", name))
         cells += [
@@ -314,7 +318,7 @@ def main() -> None:
         for number in range(chosen.turns):
             for load in loads:
                 for name in names[number % len(names) :] + names[: number % len(names)]:
-                    if name in OTHERS and not load.startswith("closed"):
+                    if name in OTHERS and not load.startswith("closed") and (name, load) != ("redis", "apart_18"):
                         continue
                     turns[load, name].append(turn(bench, name, programs[name], load, chosen.seconds))
             print(f"turn {number + 1} of {chosen.turns}, {time.monotonic() - began:.0f} s", file=sys.stderr, flush=True)

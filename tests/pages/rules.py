@@ -34,7 +34,6 @@ WIDE: dict[str, int] = {
     "bench/desk-device/run.sh": 2,
     "bench/rings/run.sh": 1,
     "bench/segment/plain.c": 1,
-    "bench/serve/client.c": 8,
     "bench/serve/plain.c": 6,
     "bench/turns.sh": 1,
     "deploy/debian/postinst": 1,
