@@ -16,16 +16,20 @@ use alm_moments::RunId;
 use alm_types::{Event, Refusal};
 
 impl<J: RunId, P: Alarms + Drop> Recall for SharedLook<J, P> {
-    ghost use Rattle.std.specs.Prelude.{OnOk, option_map};
-    ghost use Rattle.alm_shared.specs.Sights.{HasLooked};
+    ghost use Rattle.std.specs.Prelude.{IfErr, OnOk, option_map};
+    ghost use Rattle.alm_shared.specs.Sights.{HasForgotten, HasLooked};
+    ghost use Rattle.alm_types.specs.declared.refusal.Refusal.TheVariants.{Forgotten};
     ghost use Rattle.left_right.specs.Sides.{view};
 
     ghost logged = { λ look. look.known.front };
 
-    /// What is reported is of the list that was published as this very look was made.
-    ghost recalled = { λ look after result later. OnOk result
-        (HasLooked (option_map (λ reader. view reader.place) look.reader)
-        (option_map (λ reader. view reader.place) later.reader) later.known.front) };
+    /// What is reported is of the list that was published as this very look was made, and what is forgotten is so in that list.
+    ghost recalled = { λ look after result later.
+        OnOk result (HasLooked (option_map (λ reader. view reader.place) look.reader)
+        (option_map (λ reader. view reader.place) later.reader) later.known.front) ×
+        IfErr result (λ refusal. refusal ≡ Forgotten → HasForgotten J.base after
+        (option_map (λ reader. view reader.place) look.reader)
+        (option_map (λ reader. view reader.place) later.reader)) };
 
     fn recall(&mut self, after: Option<u64>, events: &mut Vec<Event>) -> Result<Recalled, Refusal> {
         let Some(reader) = self.reader.take() else {
@@ -57,9 +61,10 @@ fn recall_at<J: RunId, P: Alarms + Drop>(
     ensures answer { RecallAnswers J.base known.old.front known.new.front after events.old.items
         events.new.items result }
     ensures shown { length known.old.front ≤ length shown.now.told.front →
-        IfErr result (λ refusal. (refusal ≡ Forgotten) ×
-        (is_remembered J.base shown.now.told.front (asked_after J.base shown.now.told.front after) ≡
-        false)) }
+        IfErr result (λ refusal. refusal ≡ Forgotten) }
+    ensures forgotten { IfErr result (λ refusal. refusal ≡ Forgotten →
+        is_remembered J.base shown.now.told.front (asked_after J.base shown.now.told.front after) ≡
+        false) }
     ensures saw { OnOk result (known.new.front ≡ shown.now.told.front) }
     ensures room { vec_capacity events.new ≡ vec_capacity events.old }
 {

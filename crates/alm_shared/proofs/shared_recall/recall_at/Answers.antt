@@ -30,27 +30,27 @@ overflow_sub-count g c =
     let list = c.args.shown.now.told.front in
     omega (arith, counted base (g.P.Alarms.plant c.args.shown.now.plant) list c.count-count.result c.count-count.ensures c.args.shown.now.is_fold, ap length c.args.shown.now.remembers, c.len-3.ensures.length, count_within base list)
 
-pub returns-then-not-recall-clause-shown : goal.returns-then-not-recall-clause-shown
-returns-then-not-recall-clause-shown g c = λ within.
-    let base = g.J.RunId.base in
+-- what isn't remembered of what is shown
+is_forgotten : (base q : Condensed) (list : List LoggedAction) (kept : List Event) (count size n : ℕ) (after : Option ℕ) → kept ≡ last most_kept (events_from base list) → count ≡ q.panel.count → q ≡ run base (logged_actions list) → size ≡ length kept
+    → n ≡ unwrap_or after (count - size) → (count ≤ n + length kept → false ≡ true) → is_remembered base list (asked_after base list after) ≡ false
+is_forgotten base q list kept count size n after is counts fold long asked not =
+    let all = counted base q list count counts fold in
+    ap (is_remembered base list) (sym (number_is base list kept count size n after is all long asked)) ∙ forgotten_if base list kept count n is all (λ le. cc (not le))
+
+pub returns-then-not-recall-clause-forgotten : goal.returns-then-not-recall-clause-forgotten
+returns-then-not-recall-clause-forgotten g c =
     let shown = c.args.shown.now in
-    let list = shown.told.front in
-    let all = counted base (g.P.Alarms.plant shown.plant) list c.count-count.result c.count-count.ensures shown.is_fold in
-    let number = number_is base list shown.recent c.count-count.result c.len-3.result c.unwrap_or-number.result c.args.after shown.remembers all c.len-3.ensures.length c.unwrap_or-number.ensures in
-    (refl, ap (is_remembered base list) (sym number) ∙ forgotten_if base list shown.recent c.count-count.result c.unwrap_or-number.result shown.remembers all (λ le. cc (c.if-not-recall.ensures.kept.1 le)))
+    λ _. is_forgotten g.J.RunId.base (g.P.Alarms.plant shown.plant) shown.told.front shown.recent c.count-count.result c.len-3.result c.unwrap_or-number.result c.args.after shown.remembers c.count-count.ensures shown.is_fold c.len-3.ensures.length c.unwrap_or-number.ensures (c.if-not-recall.ensures.kept.1)
 
 pub returns-then-not-recall-clause-answer : goal.returns-then-not-recall-clause-answer
 returns-then-not-recall-clause-answer g c =
-    let base = g.J.RunId.base in
     let shown = c.args.shown.now in
     let known = c.args.known.now.front in
     let list = shown.told.front in
-    let within = prefix_shorter known list c.longer.result c.longer.ensures.that c.longer.ensures.this (omega (arith, c.if-len.false, c.len.ensures.length, c.len-2.ensures.length)) in
-    let all = counted base (g.P.Alarms.plant shown.plant) list c.count-count.result c.count-count.ensures shown.is_fold in
-    let number = number_is base list shown.recent c.count-count.result c.len-3.result c.unwrap_or-number.result c.args.after shown.remembers all c.len-3.ensures.length c.unwrap_or-number.ensures in (
+    let within = prefix_shorter known list c.longer.result c.longer.ensures.that c.longer.ensures.this (omega (arith, c.if-len.false, c.len.ensures.length, c.len-2.ensures.length)) in (
       refl,
       c.if-not-recall.ensures.forgotten refl,
-      (list, (front_of_prefix known list within, ap (is_remembered base list) (sym number) ∙ forgotten_if base list shown.recent c.count-count.result c.unwrap_or-number.result shown.remembers all (λ le. cc (c.if-not-recall.ensures.kept.1 le)))),
+      (list, (front_of_prefix known list within, is_forgotten g.J.RunId.base (g.P.Alarms.plant shown.plant) list shown.recent c.count-count.result c.len-3.result c.unwrap_or-number.result c.args.after shown.remembers c.count-count.ensures shown.is_fold c.len-3.ensures.length c.unwrap_or-number.ensures (c.if-not-recall.ensures.kept.1))),
     )
 
 pub returns-clause-answer : goal.returns-clause-answer
