@@ -4,6 +4,7 @@ pub mod Causes
 pub mod Closed
 pub mod Finished
 pub mod Histories
+pub mod Kept
 pub mod Moments
 pub mod Opened
 pub mod Outages

@@ -2,6 +2,7 @@ pub mod Answered
 pub mod Causes
 pub mod Finished
 pub mod Histories
+pub mod Kept
 pub mod Moments
 pub mod Outages
 pub mod Parts

@@ -1,11 +1,11 @@
 //! Ends a run whose threads are joined.
 ghost use Rattle.std.specs.Prelude.{◌≡◌, ◌↔◌, ℕ};
-ghost use Rattle.alm_rings.specs.Batches.{AreBatchEnds, SameFetchEnds, SameSealEnds};
+ghost use Rattle.alm_rings.specs.Batches.{AreBatchEnds, SameFetchEnds};
 ghost use Rattle.alm_rings.specs.Placed.{SameOutboxAt, outbox_at};
-ghost use Rattle.alm_seq.specs.Sequences.{SameInboxes, live_base};
+ghost use Rattle.alm_seq.specs.Sequences.{live_base};
 ghost use Rattle.alm_threads.specs.Histories.{JudgesAll};
+ghost use Rattle.alm_threads.specs.Kept.{KeepsEnds};
 ghost use Rattle.alm_threads.specs.Parts.{EndForCause, FailsForCause, HaveFlushed};
-ghost use Rattle.alm_threads.specs.Same.{AllIdle, AllSame};
 ghost use Rattle.alm_threads.specs.Slots.{AreTied};
 
 use crate::closes::Closes;
@@ -82,10 +82,8 @@ pub fn end_run<
     requires live { live_base sequencer ≡ B.Board.base flusher.flusher.board }
     requires honest { K.Device.honest (K.disk flusher.first.value) ↔
         K.Device.honest (K.disk flusher.flusher.store) }
-    ensures consoles { AllSame consoles.items result.consoles.items }
-    ensures idle { AllIdle consoles.items result.consoles.items }
-    ensures inboxes { SameInboxes sequencer.inboxes.items result.rings.inboxes.items }
-    ensures sealed { SameSealEnds sequencer.ends result.rings.ends }
+    ensures ends { KeepsEnds consoles.items result.consoles.items sequencer.inboxes.items
+        result.rings.inboxes.items sequencer.ends result.rings.ends }
     ensures judged { JudgesAll (live_base sequencer) result.rings.inboxes.items
         result.rings.ends }
     ensures outboxes { (s : ℕ) →

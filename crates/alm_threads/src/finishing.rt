@@ -2,11 +2,12 @@
 ghost use Rattle.std.specs.Prelude.{◌≡◌, ◌↔◌, ℕ, false, true, Some, None, IfSome, IsSome};
 ghost use Rattle.rtrb.specs.Ring.{IsPair};
 ghost use Rattle.alm_rings.specs.declared.inbox.Inbox.{Inbox};
-ghost use Rattle.alm_rings.specs.Batches.{AreBatchEnds, SameFetchEnds, SameSealEnds};
+ghost use Rattle.alm_rings.specs.Batches.{AreBatchEnds};
 ghost use Rattle.alm_rings.specs.Ends.{SameConsole, received_of, sent_of};
-ghost use Rattle.alm_rings.specs.Placed.{SameOutboxAt, inbox_at, outbox_at, taken_by};
+ghost use Rattle.alm_rings.specs.Placed.{inbox_at, taken_by};
 ghost use Rattle.alm_seq.specs.Sequences.{SameInboxes, live_base};
 ghost use Rattle.alm_threads.specs.Causes.{StopsFor};
+ghost use Rattle.alm_threads.specs.Kept.{KeepsEnds, KeepsFlusher};
 ghost use Rattle.alm_threads.specs.Finished.{AreAllTaken, HaveInboxes, IsAllAnswered, IsTaken};
 ghost use Rattle.alm_threads.specs.Same.{AllIdle, AllSame};
 
@@ -81,14 +82,9 @@ fn flush_one<
     J: RunId,
     R: Wait,
 >(rt: &R, flusher: &mut RecordedFlusher<K, T, B, J>)
-    ensures fetch { SameFetchEnds flusher.old.flusher.fetch flusher.new.flusher.fetch }
-    ensures outboxes { (s : ℕ) →
-        SameOutboxAt (outbox_at s flusher.old.flusher.outboxes.items)
-        (outbox_at s flusher.new.flusher.outboxes.items) }
-    ensures base { B.Board.base flusher.new.flusher.board ≡ B.Board.base flusher.old.flusher.board }
+    ensures kept { KeepsFlusher flusher.old flusher.new }
     ensures honest { K.Device.honest (K.disk flusher.old.flusher.store) ↔
         K.Device.honest (K.disk flusher.new.flusher.store) }
-    ensures first { flusher.new.first ≡ flusher.old.first }
 {
     flusher.advance();
     flusher.publish::<R>(rt);
@@ -112,19 +108,12 @@ fn finish_some<
 ) -> bool
     requires tied { HaveInboxes consoles.old sequencer.old.inboxes.items }
     requires batches { AreBatchEnds sequencer.old.ends flusher.old.flusher.fetch }
-    ensures consoles { AllSame consoles.old consoles.new }
-    ensures idle { AllIdle consoles.old consoles.new }
-    ensures inboxes { SameInboxes sequencer.old.inboxes.items sequencer.new.inboxes.items }
-    ensures ends { SameSealEnds sequencer.old.ends sequencer.new.ends }
+    ensures ends { KeepsEnds consoles.old consoles.new sequencer.old.inboxes.items
+        sequencer.new.inboxes.items sequencer.old.ends sequencer.new.ends }
     ensures live { live_base sequencer.new ≡ live_base sequencer.old }
-    ensures fetch { SameFetchEnds flusher.old.flusher.fetch flusher.new.flusher.fetch }
-    ensures outboxes { (s : ℕ) →
-        SameOutboxAt (outbox_at s flusher.old.flusher.outboxes.items)
-        (outbox_at s flusher.new.flusher.outboxes.items) }
-    ensures base { B.Board.base flusher.new.flusher.board ≡ B.Board.base flusher.old.flusher.board }
+    ensures kept { KeepsFlusher flusher.old flusher.new }
     ensures honest { K.Device.honest (K.disk flusher.old.flusher.store) ↔
         K.Device.honest (K.disk flusher.new.flusher.store) }
-    ensures first { flusher.new.first ≡ flusher.old.first }
     ensures cause { result ≡ true → flusher.old.failed ≡ false → flusher.new.failed ≡ false }
     ensures done { result ≡ true →
         IsAllAnswered consoles.new sequencer.new.inboxes.items flusher.new.flusher.outboxes.items }
@@ -157,19 +146,12 @@ pub fn finish<
 ) -> Option<StopCause>
     requires tied { HaveInboxes consoles.old sequencer.old.inboxes.items }
     requires batches { AreBatchEnds sequencer.old.ends flusher.old.flusher.fetch }
-    ensures consoles { AllSame consoles.old consoles.new }
-    ensures idle { AllIdle consoles.old consoles.new }
-    ensures inboxes { SameInboxes sequencer.old.inboxes.items sequencer.new.inboxes.items }
-    ensures ends { SameSealEnds sequencer.old.ends sequencer.new.ends }
+    ensures ends { KeepsEnds consoles.old consoles.new sequencer.old.inboxes.items
+        sequencer.new.inboxes.items sequencer.old.ends sequencer.new.ends }
     ensures live { live_base sequencer.new ≡ live_base sequencer.old }
-    ensures fetch { SameFetchEnds flusher.old.flusher.fetch flusher.new.flusher.fetch }
-    ensures outboxes { (s : ℕ) →
-        SameOutboxAt (outbox_at s flusher.old.flusher.outboxes.items)
-        (outbox_at s flusher.new.flusher.outboxes.items) }
-    ensures base { B.Board.base flusher.new.flusher.board ≡ B.Board.base flusher.old.flusher.board }
+    ensures kept { KeepsFlusher flusher.old flusher.new }
     ensures honest { K.Device.honest (K.disk flusher.old.flusher.store) ↔
         K.Device.honest (K.disk flusher.new.flusher.store) }
-    ensures first { flusher.new.first ≡ flusher.old.first }
     ensures stopped { IfSome result (λ why. StopsFor why flusher.new.failed flusher.new.refused) }
     ensures failed { flusher.new.failed ≡ true → result ≡ Some StopCause.Store }
     ensures done { result ≡ None → (flusher.new.failed ≡ false) ×

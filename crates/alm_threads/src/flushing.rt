@@ -1,7 +1,6 @@
 //! The flusher's thread.
-ghost use Rattle.std.specs.Prelude.{◌≡◌, ◌↔◌, ℕ};
-ghost use Rattle.alm_rings.specs.Batches.{SameFetchEnds};
-ghost use Rattle.alm_rings.specs.Placed.{SameOutboxAt, outbox_at};
+ghost use Rattle.std.specs.Prelude.{◌≡◌, ◌↔◌};
+ghost use Rattle.alm_threads.specs.Kept.{KeepsFlusher};
 
 use crate::recorded_flusher::RecordedFlusher;
 use alm_board::{Board, Publish};
@@ -33,12 +32,9 @@ fn commit<
     E: Bell + Drop,
     R: Wait,
 >(rt: &R, flusher: &mut RecordedFlusher<K, T, B, J>, pace: &mut FlusherPace<'_, E>) -> Pass
-    ensures fetch { SameFetchEnds flusher.old.flusher.fetch flusher.new.flusher.fetch }
-    ensures outboxes { flusher.new.flusher.outboxes ≡ flusher.old.flusher.outboxes }
-    ensures base { B.Board.base flusher.new.flusher.board ≡ B.Board.base flusher.old.flusher.board }
+    ensures kept { KeepsFlusher flusher.old flusher.new }
     ensures honest { K.Device.honest (K.disk flusher.old.flusher.store) ↔
         K.Device.honest (K.disk flusher.new.flusher.store) }
-    ensures first { flusher.new.first ≡ flusher.old.first }
 {
     if flusher.advance() == Advance::Failed {
         return Pass::Stopped;
@@ -60,13 +56,8 @@ fn answer<K: Store, T: Told + Drop, B: Board<Told = T>, J: RunId, E: Bell + Drop
     flusher: &mut RecordedFlusher<K, T, B, J>,
     pace: &mut FlusherPace<'_, E>,
 ) -> Pass
-    ensures fetch { SameFetchEnds flusher.old.flusher.fetch flusher.new.flusher.fetch }
-    ensures outboxes { (s : ℕ) →
-        SameOutboxAt (outbox_at s flusher.old.flusher.outboxes.items)
-        (outbox_at s flusher.new.flusher.outboxes.items) }
-    ensures base { B.base flusher.new.flusher.board ≡ B.base flusher.old.flusher.board }
+    ensures kept { KeepsFlusher flusher.old flusher.new }
     ensures store { flusher.new.flusher.store ≡ flusher.old.flusher.store }
-    ensures first { flusher.new.first ≡ flusher.old.first }
 {
     for _ in 0..MOST_ENTRIES {
         match flusher.release() {
@@ -93,14 +84,9 @@ fn step<
     E: Bell + Drop,
     R: Wait,
 >(rt: &R, flusher: &mut RecordedFlusher<K, T, B, J>, pace: &mut FlusherPace<'_, E>) -> Pass
-    ensures fetch { SameFetchEnds flusher.old.flusher.fetch flusher.new.flusher.fetch }
-    ensures outboxes { (s : ℕ) →
-        SameOutboxAt (outbox_at s flusher.old.flusher.outboxes.items)
-        (outbox_at s flusher.new.flusher.outboxes.items) }
-    ensures base { B.Board.base flusher.new.flusher.board ≡ B.Board.base flusher.old.flusher.board }
+    ensures kept { KeepsFlusher flusher.old flusher.new }
     ensures honest { K.Device.honest (K.disk flusher.old.flusher.store) ↔
         K.Device.honest (K.disk flusher.new.flusher.store) }
-    ensures first { flusher.new.first ≡ flusher.old.first }
 {
     match flusher.fetch() {
         Fetch::Got => pace.fetch(),
@@ -132,14 +118,9 @@ pub fn flush<
     E: Bell + Drop,
     R: Wait,
 >(rt: &R, flags: &Flags<E>, flusher: &mut RecordedFlusher<K, T, B, J>)
-    ensures fetch { SameFetchEnds flusher.old.flusher.fetch flusher.new.flusher.fetch }
-    ensures outboxes { (s : ℕ) →
-        SameOutboxAt (outbox_at s flusher.old.flusher.outboxes.items)
-        (outbox_at s flusher.new.flusher.outboxes.items) }
-    ensures base { B.Board.base flusher.new.flusher.board ≡ B.Board.base flusher.old.flusher.board }
+    ensures kept { KeepsFlusher flusher.old flusher.new }
     ensures honest { K.Device.honest (K.disk flusher.old.flusher.store) ↔
         K.Device.honest (K.disk flusher.new.flusher.store) }
-    ensures first { flusher.new.first ≡ flusher.old.first }
 {
     let mut pace = FlusherPace::new(flags);
     for _ in rt.forever() {

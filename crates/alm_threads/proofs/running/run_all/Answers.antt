@@ -28,7 +28,7 @@ end_run-requires-clause-tied g c =
     tied_still _ consoles m.rings.inboxes.items back.inboxes.items m.flusher.outboxes.items flushed
     (subst (λ ps. AllSame (map (λ p. p.console) ps) consoles) c.in-Ok-start_all.ensures.each c.join_all-consoles.ensures.each)
     (subst (λ (r : Rings). SameInboxes r.inboxes.items back.inboxes.items) c.in-Ok.ensures.0 c.join.ensures.inboxes)
-    (λ s. subst (λ o. SameOutboxAt (outbox_at s o.items) (outbox_at s flushed)) c.new-flusher.ensures.parts.2 (c.flush.ensures.outboxes s)) c.requires.tied
+    (λ s. subst (λ o. SameOutboxAt (outbox_at s o.items) (outbox_at s flushed)) c.new-flusher.ensures.parts.2 (c.flush.ensures.kept.1 s)) c.requires.tied
 
 pub returns-clause-back : goal.returns-clause-back
 returns-clause-back g c =
@@ -41,15 +41,17 @@ returns-clause-back g c =
     let consoles = c.join_all-consoles.result.consoles.items in
     let flushed = c.flush.new.flusher.flusher in
     let joined = subst (λ ps. AllSame (map (λ p. p.console) ps) consoles) c.in-Ok-start_all.ensures.each c.join_all-consoles.ensures.each in
-    let all = all_same_on _ consoles end.consoles.items joined e.consoles in
-    let first = ap (λ x. x.value) c.flush.ensures.first ∙ c.new-flusher.ensures.first in
+    let all = all_same_on _ consoles end.consoles.items joined e.ends.0 in
+    let first = ap (λ x. x.value) c.flush.ensures.kept.3 ∙ c.new-flusher.ensures.first in
     let inboxes : SameInboxes m.rings.inboxes.items end.rings.inboxes.items = λ n.
     same_at_trans (inbox_at n m.rings.inboxes.items) (inbox_at n back.inboxes.items) (inbox_at n end.rings.inboxes.items)
-    (subst (λ (r : Rings). SameInboxes r.inboxes.items back.inboxes.items) c.in-Ok.ensures.0 c.join.ensures.inboxes n) (e.inboxes n) in
+    (subst (λ (r : Rings). SameInboxes r.inboxes.items back.inboxes.items) c.in-Ok.ensures.0 c.join.ensures.inboxes n) (e.ends.2 n) in
     let outboxes : (n : ℕ) → SameOutboxAt (outbox_at n m.flusher.outboxes.items) (outbox_at n end.flusher.outboxes.items) = λ n.
     out_trans (outbox_at n m.flusher.outboxes.items) (outbox_at n flushed.outboxes.items) (outbox_at n end.flusher.outboxes.items)
-    (subst (λ o. SameOutboxAt (outbox_at n o.items) (outbox_at n flushed.outboxes.items)) c.new-flusher.ensures.parts.2 (c.flush.ensures.outboxes n)) (e.outboxes n) in
+    (subst (λ o. SameOutboxAt (outbox_at n o.items) (outbox_at n flushed.outboxes.items)) c.new-flusher.ensures.parts.2 (c.flush.ensures.kept.1 n)) (e.outboxes n) in
     let sealed = subst (λ (r : Rings). SameSealEnds r.ends back.ends) c.in-Ok.ensures.0 c.join.ensures.ends in
+    let later = e.ends.3 in
+    let kept = c.flush.ensures.kept.0 in
     record {
       same = all;
       judged = record {
@@ -73,4 +75,4 @@ returns-clause-accounts g c =
     let joined = c.join_all-consoles in
     let did = g.S.Source.did in
     let all = subst (λ ps. AllAccount did (map (λ p. state_of p.source p.look p.console) ps) joined.result.sources.items joined.result.consoles.items) c.in-Ok-start_all.ensures.each joined.ensures.accounts in
-    accounts_on did (map (λ p. state_of p.source p.look p.console) c.args.slot_parts.items) joined.result.sources.items joined.result.consoles.items c.end_run.result.consoles.items c.end_run.ensures.idle all
+    accounts_on did (map (λ p. state_of p.source p.look p.console) c.args.slot_parts.items) joined.result.sources.items joined.result.consoles.items c.end_run.result.consoles.items c.end_run.ensures.ends.1 all
