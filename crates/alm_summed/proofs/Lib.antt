@@ -1,0 +1,5 @@
+pub mod Asked
+pub mod Bytes
+pub mod Frames
+pub mod Gates
+pub mod PageSums
