@@ -1,6 +1,6 @@
 //! Laws of texts with checksums: each function does nothing, and its contract is the law.
 
-ghost use Rattle.std.specs.Prelude.{◌≡◌, ◌≢◌, ◌⊎◌, ◌≤◌, ◌+◌, ◌*◌, ℕ, List, [], ◌∷◌, ◌++◌, length, Result, Ok};
+ghost use Rattle.std.specs.Prelude.{◌≡◌, ◌≢◌, ◌⊎◌, ◌≤◌, ◌+◌, ◌*◌, ℕ, List, [], ◌∷◌, ◌++◌, length, Result, Ok, Err};
 ghost use Rattle.alm_disk.specs.Device.{AreBytes, DeviceState, IsImage, Writes};
 ghost use Rattle.alm_disk.specs.Settled.{IsSettled};
 ghost use Rattle.alm_disk.specs.declared.disk_fault.DiskFault.{DiskFault};
@@ -86,4 +86,14 @@ pub fn the_same_bytes()
         closed ∷ (summed_text epoch (count_after count frames + 1) actions ++ closed ∷ tail)) ×
         Holds epoch count (actions_of frames) (frames_text epoch count frames ++
         closed ∷ (summed_text epoch (count_after count frames + 1) actions ++ closed ∷ tail)) }
+{}
+
+/// A frame of which one byte was changed is damaged, unless it is a byte of its count.
+pub fn a_changed_byte_is_damage()
+    ensures { (epoch count byte changed gate : ℕ) (list : List AskedAction)
+        (front back rest : List ℕ) → IsSummed epoch (count + 1) list →
+        summed_text epoch (count + 1) list ≡ front ++ byte ∷ back → changed ≢ byte →
+        length front ≢ 16 → length front ≢ 17 →
+        IsBytes ((front ++ changed ∷ back) ++ gate ∷ rest) →
+        (left : ℕ) × (frame_at epoch count ((front ++ changed ∷ back) ++ gate ∷ rest) ≡ Err left) }
 {}
