@@ -37,7 +37,9 @@ GROUPS = {
     "The device and what is stored": [
         "alm_disk",
         "alm_file",
+        "alm_sum",
         "alm_codec",
+        "alm_summed",
         "alm_segment",
         "alm_checkpoint",
         "alm_store",

@@ -26,7 +26,7 @@ shift_even c e = ap (λ r. bit_xor (c / 2) (subtracted r)) e ∙ xor_zero_r (c /
 shift_odd : (c : ℕ) → c % 2 ≡ 1 → shift c ≡ bit_xor (c / 2) polynomial
 shift_odd c e = ap (λ r. bit_xor (c / 2) (subtracted r)) e
 
--- the highest bit of the polynomial tells what was shifted out
+-- by its highest bit a register shows what was shifted out
 high : (h : ℕ) → h < 2 ^ 31 → 2 ^ 31 ≤ bit_xor h polynomial
 high h lt =
     let h_is : h ≡ 0 * 2 ^ 31 + h = omega arith in

@@ -267,7 +267,7 @@ text_more head xs i x lt e = flat_map_more asked_text head (take i xs) x ∙ ap 
 pub limits_more : (xs : List AskedAction) (i : ℕ) (x : AskedAction) → i < length xs → x ≡ get_or xs i x → All IsAsked (take i xs) → IsAsked x → All IsAsked (take (i + 1) xs)
 limits_more xs i x lt e h p = subst (All IsAsked) (one_more xs i x lt e) (All-append IsAsked (take i xs) (x ∷ []) h (All-from_recursion IsAsked (x ∷ []) (p, tt)))
 
--- a checksum and a closed gate behind the fields
+-- a checksum and a closed gate after the fields
 pub body_is : (old new sum : List ℕ) (end epoch first : ℕ) (list : List AskedAction) → sum ≡ sum_text (fields_text epoch first list)
     → Wrote old new 0 end (fields_text epoch first list ++ sum ++ 0x5A ∷ []) → new ≡ summed_body epoch first list ++ drop (23 + 16 * length list) old
 body_is old new sum end epoch first list is w =

@@ -139,7 +139,7 @@ pub fn read_summed_frame(
         IsSummed epoch (count + 1) list →
         bytes.now ≡ summed_text epoch (count + 1) list ++ gate ∷ rest →
         (result ≡ Ok (22 + 16 * length list)) × (actions.new.items ≡ list) }
-    // Which field is damaged: the first that breaks its rule, and behind all of them the checksum.
+    // Which field is damaged: the first that breaks its rule, where the checksum comes last.
     ensures exact { FindsOrDamage bytes.now (λ end. (actions.new.items, drop end bytes.now)) result
         (frame_at epoch count bytes.now) }
     // The vector keeps no action of a damaged frame.
@@ -174,7 +174,7 @@ fn put_fields(epoch: u64, first: u64, actions: &[AskedAction], out: &mut [u8]) -
     at
 }
 
-/// Writes a frame's body, without its gate: its checksum is behind the actions, and the next gate is closed.
+/// Writes a frame's body, without its gate: the actions, their checksum and the next gate, closed.
 pub fn write_summed_body(epoch: u64, first: u64, actions: &[AskedAction], out: &mut [u8])
     requires some { 1 ≤ length actions.now }
     requires few { length actions.now ≤ most_entries }

@@ -71,8 +71,8 @@ pub fn an_open_gate_hides_nothing()
         (frames_text epoch count (front ++ (changed, actions) ∷ behind) ++ closed ∷ tail) }
 {}
 
-/// What can't be told: if the last gate is changed to that of a closed gate, the bytes are an image of a crash in the write of
-/// that gate, and hold the frames before it.
+/// This change can't be seen: the last gate becomes that of a closed gate. The bytes are then an image of a crash in the write
+/// of that gate, and hold the frames before it.
 pub fn the_same_bytes()
     ensures { (result : Result Unit DiskFault) (old new : DeviceState) (epoch count opened : ℕ)
         (frames : List Gated) (actions : List AskedAction) (tail : List ℕ) →

@@ -22,15 +22,15 @@
 //!
 //! What is used above: what is read is a text, whole; a text is read as what was written. Of a damaged frame the place of one
 //! field is returned: the first that breaks its rule, and if each action is one, that of the checksum. Not covered: whether an
-//! action is admitted. Changes in several places may leave a checksum as it was. If the gate of a frame is changed to that of a
-//! closed gate, it can't be told from a crash (`laws::the_same_bytes`). No call here takes memory.
+//! action is admitted. Changes in several places may leave a checksum as it was. A gate that was changed to
+//! that of a closed gate looks like a crash (`laws::the_same_bytes`). No call here takes memory.
 //!
 //! Proved:
 //! - frames are read as they were written, with who asked; damage is reported at the first field that breaks a rule (by
 //!   `read_asked`, `read_summed_frame`, `write_summed_body`, `laws`)
-//! - the first page is found of which another checksum stands there (by `put_sums`, `first_torn`, `head_sum`)
-//! - a crash in the write of a frame leaves the frames before it, with that frame or without; no other change of a gate than
-//!   to the closed value hides a frame (by `laws`)
+//! - the first page is found of which another checksum stands there (by `first_torn`, `head_sum`)
+//! - a crash in the write of a frame leaves the frames before it, with that frame or without; a changed gate hides a frame
+//!   only at the closed value (by `laws`)
 #![tactic(auto)]
 
 mod action;
