@@ -90,8 +90,9 @@ fn actions_of<'a>(
 /// The bytes after the checksum of those before `rest`, with which it begins.
 fn after_sum<'a>(bytes: &[u8], rest: &'a [u8]) -> Result<&'a [u8], BytesLeft>
     requires { length rest.now ≤ length bytes.now }
-    ensures sum { Gives (λ after. (checksum_of (take (length bytes.now - length rest.now) bytes.now), after.now)) result
-        (sum_at (take (length bytes.now - length rest.now) bytes.now) rest.now) }
+    ensures sum { Gives
+        (λ after. (checksum_of (take (length bytes.now - length rest.now) bytes.now), after.now))
+        result (sum_at (take (length bytes.now - length rest.now) bytes.now) rest.now) }
     ensures left { IfOk result (λ after. length after.now ≤ length rest.now) }
 {
     let (before, _) = bytes.split_at(bytes.len() - rest.len());
