@@ -15,14 +15,14 @@ fn text_of(kind: u8, who: u8) -> [u8; ACTION_LEN] {
 
 /// How many values of the second byte are read with a kind, and the least of them.
 fn askers(kind: u8) -> (usize, u8) {
-    let mut read = 0;
+    let mut read = 0usize;
     let mut least = 0;
     for who in 0..=u8::MAX {
         if read_asked(&text_of(kind, who)).is_ok() {
             if read == 0 {
                 least = who;
             }
-            read += 1;
+            read = read.wrapping_add(1);
         }
     }
     (read, least)

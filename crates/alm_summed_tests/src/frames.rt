@@ -1,6 +1,9 @@
 //! The texts of frames.
+ghost use Rattle.std.specs.Prelude.{IfOk};
+ghost use Rattle.alm_summed.specs.Asked.{IsAllowed};
 
 use alm_codec::Damage;
+use alm_model::may_ask;
 use alm_summed::{AskedAction, read_summed_frame, write_summed_body};
 use alm_types::{Action, AlarmId, MOST_ENTRIES, Moment, Reading, Slot};
 use std::test::Fail;
@@ -24,12 +27,20 @@ const THREE_FRAME: [u8; 71] = [
     0xff, 0xff, 0xff, 0xff, 0xff, 0xfb, 0xb4, 0x67, 0x82, 0, 0x5a,
 ];
 
-fn asked(slot: u8, action: Action) -> Result<AskedAction, Fail> {
+/// An action of a slot that may ask for it.
+fn asked(slot: u8, action: Action) -> Result<AskedAction, Fail>
+    ensures { IfOk result IsAllowed }
+{
     let slot = Slot::new(slot).ok_or("slot")?;
+    if !may_ask(slot, &action) {
+        return Err(Fail::from("role"));
+    }
     Ok(AskedAction { slot, action })
 }
 
-fn clock() -> Result<AskedAction, Fail> {
+fn clock() -> Result<AskedAction, Fail>
+    ensures { IfOk result IsAllowed }
+{
     asked(17, Action::Clock(Moment::new(1000).ok_or("moment")?))
 }
 

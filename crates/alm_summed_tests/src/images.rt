@@ -21,13 +21,30 @@ const SUMS: [u8; 12] = [
     0xea, 0x00, 0x33, 0x92, 0xee, 0x9f, 0x6c, 0x96, 0xb5, 0x71, 0xea, 0xc1,
 ];
 
+/// The checksums of an image of three pages from the second byte on, and their end.
+fn sums_of(image: &[u8]) -> Option<([u8; 16], usize)> {
+    if pages_of(image.len()) != 3 {
+        return None;
+    }
+    let mut out = [9; 16];
+    let end = put_sums(&mut out, 1, image);
+    Some((out, end))
+}
+
+/// The first torn page of an image of three pages.
+fn torn(image: &[u8], sums: &[u8; 12]) -> Option<Option<usize>> {
+    if pages_of(image.len()) != 3 {
+        return None;
+    }
+    Some(first_torn(image, sums))
+}
+
 #[test]
 fn the_checksums_of_an_image(rt: HostRuntime) -> Result<(), Fail> {
     let image = image(rt.alloc())?;
-    let mut out = [9; 16];
-    assert_eq!(rt; put_sums(&mut out, 1, &image), 13);
-    assert!(rt; out[1..13] == SUMS[..] && out[0] == 9 && out[13..] == [9; 3]);
-    assert_eq!(rt; first_torn(&image, &SUMS), None);
+    let (out, end) = sums_of(&image).ok_or("pages")?;
+    assert!(rt; end == 13 && out[1..13] == SUMS[..] && out[0] == 9 && out[13..] == [9; 3]);
+    assert_eq!(rt; torn(&image, &SUMS), Some(None));
     Ok(())
 }
 
@@ -58,15 +75,15 @@ fn the_first_torn_page(rt: HostRuntime) -> Result<(), Fail> {
     for (place, page) in TORN {
         let mut image = image(rt.alloc())?;
         *image.get_mut(place).ok_or("place")? ^= 1;
-        assert_eq!(rt; first_torn(&image, &SUMS), Some(page), "at {place}");
+        assert_eq!(rt; torn(&image, &SUMS), Some(Some(page)), "at {place}");
     }
     let image = image(rt.alloc())?;
     for place in 0..12 {
         let mut sums = SUMS;
         *sums.get_mut(place).ok_or("place")? ^= 0x80;
         assert_eq!(rt;
-            first_torn(&image, &sums),
-            Some(place / 4),
+            torn(&image, &sums),
+            Some(Some(place / 4)),
             "sum at {place}"
         );
     }
