@@ -72,9 +72,8 @@ def await_port(port: int, process: subprocess.Popen[bytes]) -> None:
 
 def figures_of(line: str, cpu: float) -> dict[str, float]:
     """The figures that client.c and sqlite.c print, with seconds of the processor in all."""
-    rate, p50, p99, greatest, late, requests, _, *client = map(float, line.split())
+    rate, p50, p99, greatest, late, requests, *_ = map(float, line.split())
     return {
-        **({"client": client[0]} if client else {}),
         "rate": rate,
         "p50": p50,
         "p99": p99,
@@ -113,7 +112,8 @@ class Others:
                 before = cpu_of(server.pid)
                 words = [str(self.folder / "client"), str(self.port), "closed", str(seconds), *load, "redis"]
                 printed = subprocess.run([*CLASS, *words], stdout=subprocess.PIPE, text=True, check=True).stdout
-                return figures_of(printed, cpu_of(server.pid) - before)
+                client = float(printed.split()[-1])
+                return {**figures_of(printed, cpu_of(server.pid) - before), "client": client}
             finally:
                 server.kill()
 
