@@ -1,13 +1,18 @@
 """What a page draws, held against the server's own rows. tests/tools/browser.py runs these checks."""
+import re
 import sys
 import time
+import urllib.request
 
+from check_listen import Web
+from check_metrics import lint
 from lib.browsers import List, Page, Plant, engineer
 from lib.program import check
-from lib.tools import Yard, slowness
+from lib.tools import Yard, await_true, slowness
 
 # Seconds in which a row that the server denies has to be found: those of a round and some.
 WITHIN = 30
+COMPARED, DENIED = "rows_compared_total", "rows_denied"
 # A page's server that draws one field of one alarm's row otherwise than it was told, and one that misses what was
 # acknowledged.
 FALSIFIED = """
@@ -48,7 +53,7 @@ class Falsified(List):
 
     def __init__(self, yard: Yard, plant: Plant, change: str):
         self.wrong = [sys.executable, "-c", change + MAIN]
-        super().__init__(yard, plant.device, plant.port, "--role", "engineer")
+        super().__init__(yard, plant.device, plant.port, "--role", "engineer", "--metrics", "0")
 
     def start(self) -> None:
         at = self.words.index("alarms.browser")
@@ -64,6 +69,21 @@ def await_said(listed: List, text: str) -> None:
         time.sleep(0.1)
 
 
+def address(listed: List) -> str:
+    """Where its page of metrics is."""
+    await_said(listed, "/metrics")
+    return re.findall(r"http://\S+/metrics", listed.said())[0]
+
+
+def counted(listed: List) -> dict[str, dict[str, int]]:
+    """The metrics of a list, of each plant by its name."""
+    page = urllib.request.urlopen(address(listed), timeout=60).read().decode()
+    found: dict[str, dict[str, int]] = {}
+    for name, plant, value in re.findall(r'^alarms_list_(\w+)\{plant="(.*)"\} (\d+)$', page, re.M):
+        found.setdefault(plant, {})[name] = int(value)
+    return found
+
+
 def missed(yard: Yard, plant: Plant) -> None:
     """A change that the page's server misses is found too."""
     listed = Falsified(yard, plant, MISSING)
@@ -71,18 +91,20 @@ def missed(yard: Yard, plant: Plant) -> None:
     page.shows("TI-102", "Unack")
     plant.console.acknowledge(plant.numbers["TI-102"])
     await_said(listed, "the server denies 1 of the rows. TI-102: its state is UNACK here, and ACKED there")
+    check(counted(listed)["plant"][DENIED] == 1, "it counts", counted(listed))
     page.end()
     listed.end()
 
 
 def denied(yard: Yard, _count: int) -> str:
-    """Each field of a drawn row that isn't the server's is found, and said on the page and in the log. Rows that are
-    the server's are denied by nobody, while the plant moves on."""
+    """Each field of a drawn row that isn't the server's is found, and said on the page, in the log and by the page of
+    metrics. Rows that are the server's are denied by nobody, while the plant moves on."""
     plant = Plant(yard)
     plant.comes("TI-101", "TI-102")
     for place, (name, wrong) in FIELDS.items():
         listed = Falsified(yard, plant, FALSIFIED.format(place=place, wrong=repr(wrong)))
         await_said(listed, f"the server denies 1 of the rows. TI-101: its {name} is")
+        check(counted(listed)["plant"][DENIED] == 1, "of a wrong", name, "it counts", counted(listed))
         if place == 3:
             page = Page(yard, listed.url)
             page.until("the warning", lambda page=page: "NOT AS THE SERVER SAYS" in page.of("#trouble"))
@@ -90,7 +112,14 @@ def denied(yard: Yard, _count: int) -> str:
             page.end()
         listed.end()
     missed(yard, plant)
-    listed = engineer(yard, plant)
+    moves(yard, plant)
+    plant.end()
+    return f"{len(FIELDS)} wrong fields and a missed change, each found"
+
+
+def moves(yard: Yard, plant: Plant) -> None:
+    """Rows that are the server's, of a plant that moves on."""
+    listed = engineer(yard, plant, "--metrics", "0")
     page = Page(yard, listed.url)
     page.shows("TI-101", "Unack")
     for step in range(200):
@@ -98,10 +127,32 @@ def denied(yard: Yard, _count: int) -> str:
         plant.passes(1)
         time.sleep(0.02)
     check("denies" not in listed.said() and page.of("#trouble") == "", listed.said(), page.of("#trouble"))
+    found = counted(listed)["plant"]
+    check(found["connected"] == 1 and found[DENIED] == 0 and found[COMPARED] > 0, "of true rows it counts", found)
+    lint(address(listed))
     page.end()
     listed.end()
-    plant.end()
-    return f"{len(FIELDS)} wrong fields and a missed change, each found"
 
 
-CHECKS = {"denied": denied}
+def by_plant(yard: Yard, _count: int) -> str:
+    """The metrics of two plants stand by their names, also of one whose server has gone; of two processes the one that
+    follows has them."""
+    plants = [Plant(yard, name=name) for name in ("north", "south")]
+    names, place = ('north "1"', "süd"), yard.path("list")
+    words = [word for name in names for word in ("--name", name)]
+    words += ["--port", plants[1].port, "--metrics", "0", "--tell", place]
+    listed = List(yard, "", plants[0].port, *words, listen=False)
+    web = Web(yard, place, "--metrics", "1024")
+    raw = [name.replace('"', '\\"') for name in names]
+    await_true("both", lambda: [counted(listed).get(name, {}).get("connected") for name in raw] == [1, 1])
+    plants[1].end()
+    await_true("one", lambda: [counted(listed)[name]["connected"] for name in raw] == [1, 0])
+    lint(address(listed))
+    check("metrics" not in web.said(), "the other process says", web.said())
+    for one in (web, listed):
+        one.end()
+    plants[0].end()
+    return "two plants by their names"
+
+
+CHECKS = {"denied": denied, "denied_by_plant": by_plant}

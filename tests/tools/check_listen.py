@@ -256,9 +256,10 @@ def parts(yard: Yard, _count: int) -> str:
 class Web(List):
     """The part that browsers reach."""
 
-    def __init__(self, yard: Yard, source: str):
+    def __init__(self, yard: Yard, source: str, *words: str):
         self.folder = yard.folder
-        self.words = module("browser", "--from", source, "--listen", "0", "--role", "engineer", "--user", "anna")
+        users = ("--role", "engineer", "--user", "anna")
+        self.words = module("browser", "--from", source, "--listen", "0", *users, *words)
         self.start()
 
 

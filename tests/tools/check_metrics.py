@@ -184,7 +184,7 @@ def lint(address: str) -> str:
 
 
 # A plant with an unacknowledged alarm and a flood, whose server dies after ten minutes and is back, in order, half an
-# hour later. Behind that each trouble comes for some minutes: of the feed, of the device, of the clock, of the pages.
+# hour later. Behind that each trouble comes for some minutes: of the list, the feed, the device, the clock, the pages.
 RULES = """
 rule_files: [RULES]
 evaluation_interval: 15s
@@ -202,6 +202,9 @@ tests:
       - {series: 'alarms_rows_denied', values: '0x359 3x19 0x20'}
       - {series: 'up{job="alarms-archive"}', values: '1x384 0x15'}
       - {series: 'alarms_archive_rows_denied', values: '0x319 2x15 0x60'}
+      - {series: 'up{job="alarms-list"}', values: '1x187 0x11 1x199'}
+      - {series: 'alarms_list_connected{plant="north"}', values: '1x167 0x11 1x219'}
+      - {series: 'alarms_list_rows_denied{plant="north"}', values: '0x183 2x3 0x211'}
       - {series: 'up{job="alarms-feed"}', values: '1x199 0x19 1x180'}
       - {series: 'alarms_feed_connected', values: '1x219 0x19 1x160'}
       - {series: 'alarms_feed_last_value_timestamp_seconds', values: '0+15x239 3585x19 3900+15x139'}
@@ -223,6 +226,9 @@ ALERTS = {
     "AlarmRowsDenied": "",
     "AlarmArchiveGone": "job: alarms-archive",
     "AlarmArchiveDenied": "",
+    "AlarmListGone": "job: alarms-list",
+    "AlarmListWithoutServer": "plant: north",
+    "AlarmListDenied": "plant: north",
     "AlarmFeedGone": "job: alarms-feed",
     "AlarmFeedStill": "",
     "AlarmFeedWithoutServer": "",
@@ -233,7 +239,10 @@ FIRING = {
     "9m": "AlarmUnacknowledged AlarmFlood",
     "15m": "AlarmUnacknowledged AlarmFlood AlarmServerDown",
     "38m": "AlarmUnacknowledged AlarmFlood AlarmServerDown",
+    "44m": "AlarmListWithoutServer",
     "45m": "",
+    "46m": "AlarmListDenied",
+    "49m": "AlarmListGone",
     "52m": "AlarmFeedGone",
     "57m": "AlarmFeedWithoutServer",
     "63m": "AlarmFeedStill",

@@ -35,7 +35,8 @@ OF_A_NUMBER = (
     "export --port N; feed --port N; clock --port N --seconds 1; metrics --port N; console --port N;"
     " await_server --port N; metrics --port 1024 --listen N; clock --port 1024 --seconds 1 --jump N;"
     " export --port 1024 --slot N; csv2toml TABLE --segment N; uncache DEVICE --within N;"
-    " archive run new.sqlite --port 1024 --metrics N --once; await_server --sockets none --let root N --pid 4194305"
+    " archive run new.sqlite --port 1024 --metrics N --once; browser --port 1024 --listen 0 --metrics N;"
+    " await_server --sockets none --let root N --pid 4194305"
 )
 # What prints something for a good device.
 PRINTING = "check DEVICE; journal DEVICE; journal DEVICE --from 1; mirror DEVICE; salvage DEVICE --table"

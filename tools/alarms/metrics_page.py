@@ -1,24 +1,36 @@
 """A page of metrics in the text format that Prometheus reads, on loopback alone."""
 import http.server
 import threading
-from typing import Callable, Iterable
+from typing import Callable, Iterable, Iterator
 
 from .connecting import HOST
 
 # Seconds after which a client of the page is left.
 SILENCE = 10
-# Name, kind, page and value of a metric.
-Metric = tuple[str, str, str, float]
+# Name, kind, page and value of a metric; of several plants the value of each, by its name.
+Metric = tuple[str, str, str, float | dict[str, float]]
+# How a name stands in a label.
+ESCAPED = str.maketrans({"\\": r"\\", '"': r"\"", "\n": r"\n"})
 
 
 def page_of(metrics: Iterable[Metric]) -> str:
-    """The text of metrics that have one sample each."""
-    return "".join(
-        f"# HELP {name} {page}\n# TYPE {name} {kind}\n{name} {value:.3f}\n"
-        if isinstance(value, float)
-        else f"# HELP {name} {page}\n# TYPE {name} {kind}\n{name} {value}\n"
-        for name, kind, page, value in metrics
-    )
+    """The text of metrics."""
+    return "".join(f"{line}\n" for metric in metrics for line in lines_of(*metric))
+
+
+def lines_of(name: str, kind: str, page: str, value: float | dict[str, float]) -> Iterator[str]:
+    """The lines of a metric: what it is, and its samples."""
+    yield f"# HELP {name} {page}"
+    yield f"# TYPE {name} {kind}"
+    if not isinstance(value, dict):
+        yield f"{name} {number(value)}"
+        return
+    for plant, sample in value.items():
+        yield f'{name}{{plant="{plant.translate(ESCAPED)}"}} {number(sample)}'
+
+
+def number(value: float) -> str:
+    return f"{value:.3f}" if isinstance(value, float) else str(value)
 
 
 class Page(http.server.ThreadingHTTPServer):
@@ -41,7 +53,7 @@ class Asked(http.server.BaseHTTPRequestHandler):
         if self.path != "/metrics":
             self.send_error(404)
             return
-        body = page_of(self.server.told()).encode("ascii")
+        body = page_of(self.server.told()).encode()
         self.send_response(200)
         self.send_header("Content-Type", "text/plain; version=0.0.4; charset=utf-8")
         self.send_header("Content-Length", str(len(body)))

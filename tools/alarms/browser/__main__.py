@@ -17,6 +17,9 @@ the servers. Each takes the words of the other and leaves them alone.
 Who asked for an action and why is kept by the action's number, with --notes FILE in a file of SQLite, else until it
 ends.
 
+What it draws is held against the server's rows, each within half a minute. What the server denies is logged, told on
+the page, and counted on a page of metrics, --metrics PORT, of the process that follows the plants.
+
 Several plants are one list. Each has its --port or --sockets, and if any has its --name and its --areas, in the same
 order. Slots and notes are for all. An action goes to the alarm's own server, and one server that is lost is said by its
 plant's name while the others go on.

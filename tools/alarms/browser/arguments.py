@@ -61,7 +61,19 @@ def arguments(page: Optional[str]) -> Parser:
         metavar="SOCKET",
         help="the socket of an alm_browser with --tell, in the place of servers",
     )
+    words.add_argument(
+        "--metrics",
+        type=listen_port,
+        metavar="PORT",
+        help="a page of metrics at this port of 127.0.0.1, where plants are followed; 0 for any that is free",
+    )
     add_users(words)
+    add_plants(words)
+    return words
+
+
+def add_plants(words: Parser) -> None:
+    """The arguments that say what the plants, their areas, alarms and positions are called and how they are told."""
     words.add_argument(
         "--name",
         dest="names",
@@ -91,7 +103,6 @@ def arguments(page: Optional[str]) -> Parser:
         metavar="FILE",
         help="the positions of the control room: areas, roles, what each may (docs/CONTROL_ROOM.md)",
     )
-    return words
 
 
 def add_users(words: Parser) -> None:

@@ -30,6 +30,7 @@ class DrawnCheck:
     """Holds the rows that were drawn against the server's."""
 
     def __init__(self) -> None:
+        self.compared = 0
         self.begin()
 
     def begin(self) -> None:
@@ -61,6 +62,7 @@ class DrawnCheck:
 
     def compare(self, table: list[Alarm]) -> None:
         """Notes which of the drawn rows the server denies."""
+        self.compared += len(self.asked)
         for alarm, row in self.asked.items():
             wrong = next(differing(self.drawn[alarm], row), None)
             if wrong:

@@ -15,12 +15,14 @@ from ..connecting import HOST
 from ..details_file import Details, differences, load_details
 from ..ending import sayer
 from ..known import known
+from ..metrics_page import show_page
 from .arguments import Given
 from .batch import Batch
 from .board import BrowserBoard
 from .doors import Door
 from .gate import BACKLOG, Gate, most_connections
 from .language import ENGLISH, Words, load_words, word_lines
+from .list_metrics import list_metrics
 from .listening import Ended, open_port, open_socket
 from .notes import Notes
 from .orders import MOST_ALARMS, Order, Rules
@@ -186,6 +188,9 @@ async def serve(chosen: argparse.Namespace, plants: list[Given]) -> None:
     desks = read_desks(chosen, plants)
     listening = opened(chosen)
     boards, watches = followed(chosen, plants, failing(ended), desks)
+    if chosen.metrics is not None:
+        names = [plant.name for plant in plants]
+        show_page(chosen.metrics, lambda: list_metrics(dict(zip(names, watches))), say)
     order, rules = taker(watches, desks), rules_of(chosen, desks)
     begin = lambda: [watch.thread.start() for watch in watches]
     try:
