@@ -1,5 +1,6 @@
 """What a page draws, held against the server's own rows. tests/tools/browser.py runs these checks."""
 import re
+import subprocess
 import sys
 import time
 import urllib.request
@@ -7,6 +8,7 @@ import urllib.request
 from check_listen import Web
 from check_metrics import lint
 from lib.browsers import List, Page, Plant, engineer
+from lib.places import AT_TOOLS
 from lib.program import check
 from lib.tools import Yard, await_true, slowness
 
@@ -155,4 +157,14 @@ def by_plant(yard: Yard, _count: int) -> str:
     return "two plants by their names"
 
 
-CHECKS = {"denied": denied, "denied_by_plant": by_plant}
+def by_lines(_yard: Yard, _count: int) -> str:
+    """What follows a plant for the page has no device's file and no model of the alarms; nor have the other tools that
+    go by lines."""
+    for module in ("browser.serving", "console", "clock", "feed", "export"):
+        code = f"import alarms.{module}, sys; print(*{{'alarms.device_file', 'alarms.model'}} & set(sys.modules))"
+        run = subprocess.run([sys.executable, "-c", code], env=AT_TOOLS, capture_output=True, text=True, timeout=60)
+        check(run.returncode == 0 and not run.stdout.strip(), module, "has", run.stdout, run.stderr)
+    return "rows by lines alone"
+
+
+CHECKS = {"denied": denied, "denied_by_plant": by_plant, "by_lines": by_lines}
