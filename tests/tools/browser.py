@@ -38,6 +38,7 @@ PARTS = (
     "check_two_desks",
     "check_language",
     "check_screen",
+    "check_tablet",
     "check_hold",
     "check_flood",
     "check_latency",

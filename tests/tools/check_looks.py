@@ -228,7 +228,7 @@ def sounds(yard: Yard, _count: int) -> str:
     sounding = lambda: page.js("return document.body.dataset.sounding")
     played = lambda: page.js("return document.body.dataset.played || '0'")
     check(
-        page.of("#sound") == "Sound: press to allow" and sounding() == "3" and played() == "0",
+        page.of("#sound") == "Allow sound" and sounding() == "3" and played() == "0",
         "before a touch",
         page.of("#sound"),
         sounding(),

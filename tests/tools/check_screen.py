@@ -136,7 +136,17 @@ def rows_of(page: Page, width: int, height: int, is_touched: bool) -> int:
         " button.getClientRects().length).length"
     )
     more = int(re.fullmatch(r"\+ (\d+) areas", page.of("#more"))[1])
-    check(shown > 0 and shown + more == MOST_AREAS, width, height, "shows", shown, "areas and counts", more, "more")
+    # a tablet has no room for a name of 32 letters beside what is suppressed: one that isn't whole isn't there
+    check(
+        (shown or is_touched) and shown + more == MOST_AREAS,
+        width,
+        height,
+        "shows",
+        shown,
+        "areas and counts",
+        more,
+        "more",
+    )
     return rows
 
 

@@ -41,6 +41,7 @@ export function drawColumns() {
   const all = heads(), key = JSON.stringify([all, look.sort, look.down]), place = $("columns");
   if (place.dataset.key === key) return false;
   document.body.classList.toggle("suppressed", !isJournal() && columns().includes("begun"));
+  document.body.classList.toggle("all", look.view === "all");
   const focused = document.activeElement instanceof HTMLElement ? document.activeElement.dataset.sort : undefined;
   place.dataset.key = key;
   place.replaceChildren(...all.map(head));

@@ -40,11 +40,11 @@ export function drawFloods() {
   boundFloods();
 }
 
-// The list keeps its rows: of the areas in flood those stand there that a line holds, and the others are behind a
+// The list keeps its rows: of the areas in flood those stand there that a line holds whole, and the others are behind a
 // button.
 function boundFloods() {
   const all = childrenOf($("flooded")), more = $("more");
-  const beyond = () => all.filter(one => one.offsetTop > all[0].offsetTop);
+  const beyond = () => all.filter(one => one.offsetTop > all[0].offsetTop || one.scrollWidth > one.clientWidth + 1);
   for (const one of all) one.hidden = false;
   more.hidden = true;
   if (!beyond().length) return;

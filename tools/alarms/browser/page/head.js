@@ -51,11 +51,13 @@ export function drawPlants() {
   });
 }
 
+const isCounted = (/** @type {string} */ view) => view !== "journal" && view !== "all";
+
 /** The views, with how many rows each has. */
 export function drawTabs() {
   for (const tab of childrenOf($("tabs"))) {
-    const view = tab.dataset.view ?? "", isCounted = view !== "journal" && view !== "all";
-    put(tab, t(VIEWS[view][0]) + (isCounted ? ` ${screen.counts[view]}` : ""));
+    const view = tab.dataset.view ?? "";
+    put(tab, t(VIEWS[view][0]) + (isCounted(view) ? ` ${screen.counts[view]}` : ""));
     tab.setAttribute("aria-selected", String(view === look.view));
     tab.tabIndex = view === look.view ? 0 : -1;
   }
@@ -83,8 +85,14 @@ export function drawFilters() {
   choice("state").disabled = isJournal();
 }
 
-/** Makes what stands over the list for as long as the page is open. */
+// Letters of the room for a view's count: the blank before it, five digits, and one to spare.
+const COUNT = 7;
+
+/** Makes what stands over the list for as long as the page is open. A view has room by its word and its largest count,
+ * so that neither is cut and no count moves another view. */
 export function prepareTabs() {
+  const letters = Object.keys(VIEWS).map(view => t(VIEWS[view][0]).length + (isCounted(view) ? COUNT : 1));
+  $("tabs").style.setProperty("--tabs", letters.map(count => `minmax(0, ${count}fr)`).join(" "));
   for (const view of Object.keys(VIEWS)) {
     const tab = button();
     tab.dataset.view = view;

@@ -35,7 +35,7 @@ const isAllowed = () => sound.context?.state === "running";
  * @returns {[string, boolean]}
  */
 export function soundWord() {
-  return [!sound.on ? t("Sound off") : isAllowed() ? t("Sound on") : t("Sound: press to allow"), sound.on];
+  return [!sound.on ? t("Sound off") : isAllowed() ? t("Sound on") : t("Allow sound"), sound.on];
 }
 
 /** The most urgent priority of what sounds; 0 where nothing does. */
