@@ -207,7 +207,8 @@ def through_the_proxy(path: str, port: int, place: str) -> None:
 
 
 def through_tls(port: int) -> None:
-    """Without TLS it leads to it, and no cipher without forward secrecy is taken."""
+    """Without TLS it leads to it, and no cipher without forward secrecy is taken. All windows of a browser go by one
+    connection, HTTP/2."""
     run = subprocess.run(
         ["curl", "-s", "-o", os.devnull, "-w", "%{http_code} %{redirect_url}", "-H", "Host: alarms.example"]
         + [f"http://127.0.0.1:{port + 1}/x"],
@@ -215,6 +216,9 @@ def through_tls(port: int) -> None:
         text=True,
     )
     check(run.stdout == "301 https://alarms.example/x", "without TLS it says", run.stdout)
+    words = ["curl", "-s", "-k", "-o", os.devnull, "-w", "%{http_version}", f"https://127.0.0.1:{port}/alarms.js"]
+    run = subprocess.run(words, capture_output=True, text=True)
+    check(run.stdout == "2", "with TLS it speaks HTTP", run.stdout, run.stderr)
     for cipher, is_taken in (
         ("AES128-SHA", False),
         ("AES256-GCM-SHA384", False),
