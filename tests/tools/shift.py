@@ -26,6 +26,7 @@ import statistics
 import subprocess
 import sys
 import time
+import traceback
 from typing import Callable, Optional
 
 from lib import chromium
@@ -257,6 +258,8 @@ def main() -> None:
         shift.work()
         said = shift.end()
     except (Wrong, Lost, Refused, WebDriverException, subprocess.TimeoutExpired) as wrong:
+        if "ALM_BROWSER_LOUD" in os.environ:
+            traceback.print_exc()
         sys.exit(f"shift: {str(wrong).strip()}; devices are in {folder}")
     finally:
         end_pages()

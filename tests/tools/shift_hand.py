@@ -4,6 +4,7 @@ Each action is done by clicks and keys. What it is to bring about is worked out 
 from the count (shift_world.py), before it is done.
 """
 import collections
+import contextlib
 import os
 import random
 import time
@@ -14,6 +15,7 @@ from check_screen import screen
 from lib.browsers import AREAS, Page
 from lib.program import Wrong, check
 from lib.tools import await_true
+from selenium.common.exceptions import ElementNotInteractableException
 from selenium.webdriver import Keys
 from shift_world import World
 
@@ -224,8 +226,9 @@ class Operator:
     def follows_newcomers(self) -> None:
         """What came above the screen while the list held still."""
         if "new above" in self.page.of("#new-above"):
-            self.counts["newcomers"] += 1
-            self.page.click("#new-above")
+            with contextlib.suppress(ElementNotInteractableException):  # the list came free just before
+                self.page.click("#new-above")
+                self.counts["newcomers"] += 1
             self.page.leave()
 
     def turn(self) -> None:
