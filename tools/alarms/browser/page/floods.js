@@ -52,7 +52,7 @@ function boundFloods() {
   put(more, t("+ {count} areas", {count: all.length}));
   const left = beyond();
   for (const one of left) one.hidden = true;
-  put(more, t("+ {count} areas", {count: left.length}));
+  put(more, left.length === 1 ? t("+ 1 area") : t("+ {count} areas", {count: left.length}));
 }
 
 function showFlood(/** @type {Event} */ event) {
