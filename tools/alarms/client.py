@@ -304,7 +304,7 @@ class ServerClient(Client):
         try:
             self.socket.sendall(text.encode("ascii"))
         except OSError as error:
-            raise Lost(f"slot {self.slot}: {error}") from error
+            raise Lost(f"slot {self.slot}: {error.strerror or error}") from error
 
     def receive(self) -> str:
         try:
@@ -312,7 +312,7 @@ class ServerClient(Client):
         except TimeoutError as error:
             raise NoAnswer(f"slot {self.slot} gives no answer: another client may have it") from error
         except OSError as error:
-            raise Lost(f"slot {self.slot}: {error}") from error
+            raise Lost(f"slot {self.slot}: {error.strerror or error}") from error
 
     def close(self) -> None:
         self.stream.close()
