@@ -39,8 +39,8 @@ return [...document.querySelectorAll('button')].filter(isSeen).map(one => [lines
 
 
 def tablet(yard: Yard, _count: int) -> str:
-    """On a tablet no button's text wraps or is cut, in a flood of 64 areas and with counts of three digits, in each view
-    and language; the first view keeps its rows."""
+    """On a tablet no button's text wraps or is cut, in a flood of 64 areas and with counts of three digits, in each
+    view and language; the first view keeps its rows."""
     plant = Plant(yard, largest_table(yard))
     standing = [number for number in range(len(plant.numbers)) if number % OF_AREA < FLOOD]
     for _ in plant.feed.ask_all(f"VAL {number} 120" for number in standing):
