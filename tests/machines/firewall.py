@@ -4,10 +4,10 @@
     tests/machines/firewall.py PROGRAM [--short]
 
 In a network namespace of its own, with the rules of that file, whose users and groups are given numbers here. Each of
-several users connects to each of the 18 ports: consoles by their group, feed, clock and metrics by their users, and
-root; whoever may is answered, and each other one is refused at once. Without the rules all are answered. A connection
-that is open when the rules come goes on; they can be loaded twice. It needs root, nft (Debian: nftables) and ip
-(iproute2), and ends with status 77 where one isn't there.
+several users connects to each of the 18 ports: consoles by their group, feed, clock, archive and others by their users,
+and root; whoever may is answered, and each other one is refused at once. Without the rules all are answered. A
+connection that is open when the rules come goes on; they can be loaded twice. It needs root, nft (Debian: nftables) and
+ip (iproute2), and ends with status 77 where one isn't there.
 """
 import os
 import re
@@ -30,6 +30,7 @@ NUMBERS = {
     "alarms-feed": 64_002,
     "alarms-clock": 64_003,
     "alarms-metrics": 64_004,
+    "alarms": 64_005,
     "alarms-list": 64_006,
 }
 # Who connects: user, own group, further groups; and to which slots they may.
@@ -39,9 +40,9 @@ WHO = [
     ("an operator who is in the consoles' group beside", 64_010, 64_010, [64_001], set()),
     ("the feed", 64_002, 64_002, [], {FEED}),
     ("the clock", 64_003, 64_003, [], {CLOCK}),
-    ("the metrics", 64_004, 64_004, [], {15}),
+    ("call-out and metrics", 64_004, 64_004, [], {10, 15}),
     ("the alarm list", 64_006, 64_007, [], {12}),
-    ("the server's own user", 64_005, 64_005, [], set()),
+    ("archive and metrics with the device's", 64_005, 64_008, [], {13, 15}),
     ("another user", 64_011, 64_011, [], set()),
 ]
 

@@ -17,6 +17,8 @@ SERVER, CLOCK_UNIT, FEED_UNIT, METRICS_UNIT = (
     "alm_feed@plant",
     "alm_metrics@plant",
 )
+# It runs in the place of the metrics' unit.
+DEVICE_METRICS = "alm_device_metrics@plant"
 
 
 FOLDER = "/run/alarms/plant"
@@ -107,6 +109,11 @@ def active(*units):
 
 def ask(place, slot, line):
     """The reply to a line; none where this user may not connect."""
+    return ask_all(place, slot, line)[0]
+
+
+def ask_all(place, slot, lines):
+    """The replies to lines."""
     if isinstance(place, int):
         client = socket.create_connection(("127.0.0.1", place + slot), timeout=10)
     else:
@@ -114,8 +121,9 @@ def ask(place, slot, line):
         client.settimeout(10)
         client.connect(f"{place}/{slot}")
     with client:
-        client.sendall(line)
-        return client.makefile("rb").readline().decode()
+        client.sendall(lines)
+        replies = client.makefile("rb")
+        return [replies.readline().decode() for _ in lines.splitlines()]
 
 
 def as_user(name, *words):

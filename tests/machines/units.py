@@ -8,7 +8,8 @@ FOLDER is the root of a Debian with systemd, which is started in a container ove
 The blocks of docs/START.md and docs/OPERATING.md are run word for word, as root, in the order of a plant's life: try
 it, install, format, start, feed and consoles, watch, a second plant, backup, restore, a change of the table, a clock
 that ran ahead, upgrade and the way back. Behind each it is judged what runs, who may open which socket, and what the
-plant shows. A server that is killed comes back; one whose device is missing or damaged stays down.
+plant shows. A server that is killed comes back; one whose device is missing or damaged stays down. An archive is begun
+by the block of docs/HISTORY.md: in the end it has each action of each plant, whatever was killed.
 
 It needs root and systemd-nspawn (Debian: systemd-container), and ends with status 77 where one isn't there or no FOLDER
 is given.
@@ -21,9 +22,11 @@ import threading
 import time
 import urllib.request
 
+from archive_unit import archive_end, archive_part
 from container import run_script
 from systemd import (
     CLOCK_UNIT,
+    DEVICE_METRICS,
     FEED_UNIT,
     FOLDER,
     METRICS_UNIT,
@@ -163,6 +166,14 @@ def watch():
     check("alarms_up 1\n" in text and "alarms_journal_" in text, "the metrics are", text)
     check(len(re.findall(r"(?m) \d+ +- +clock$", text)) >= 2, "the audit trail is", text)
     output("systemctl", "start", METRICS_UNIT)
+    run(blocks[2])
+    active(DEVICE_METRICS)
+    check(state_of(METRICS_UNIT) == "inactive", "beside the unit with the device there is", METRICS_UNIT)
+    await_true("the device's figures", lambda: b"alarms_device_damaged 0\n" in metrics())
+    check(re.search(rb"(?m)^alarms_journal_bytes [1-9]", metrics()), "its page is", metrics())
+    check(re.search(rb"(?m)^alarms_rows_denied 0$", metrics()), "its page is", metrics())
+    output("systemctl", "disable", "--now", DEVICE_METRICS)
+    output("systemctl", "enable", "--now", METRICS_UNIT)
 
 
 def killed():
@@ -322,6 +333,7 @@ LIFE = [
     users,
     feed_and_consoles,
     web_part,
+    archive_part,
     watch,
     killed,
     second_plant,
@@ -329,6 +341,7 @@ LIFE = [
     back_up_and_restore,
     change_the_table,
     clock_ran_ahead,
+    archive_end,
 ]
 STEPS = [try_it, install, *LIFE, upgrade, stays_down]
 

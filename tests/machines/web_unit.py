@@ -99,12 +99,17 @@ def broken_into():
     for path, text in ((script, BROKEN_INTO), (f"{folder}/broken.conf", BROKEN_UNIT.format(script=script))):
         with open(path, "w", encoding="ascii") as file:
             file.write(text)
+    main_process = lambda: output("systemctl", "show", "-P", "MainPID", LIST_UNIT).strip()
+    before = main_process()
     output("systemctl", "daemon-reload")
     output("systemctl", "restart", WEB_UNIT)
+    await_true("another process of the list", lambda: main_process() not in (before, "0"))
     await_true("the list's socket", lambda: os.path.exists("/run/alarms-list/plant/socket"))
     active(WEB_UNIT, LIST_UNIT)
-    with open("/run/numbers", "w", encoding="ascii") as file:
-        file.write(" ".join(output("systemctl", "show", "-P", "MainPID", unit).strip() for unit in (SERVER, LIST_UNIT)))
+    numbers = " ".join(output("systemctl", "show", "-P", "MainPID", unit).strip() for unit in (SERVER, LIST_UNIT))
+    with open("/run/written", "w", encoding="ascii") as file:
+        file.write(numbers)
+    os.rename("/run/written", "/run/numbers")  # the code reads it as soon as it is there
     said = lambda: re.findall(r"^\{.*\}$", output("journalctl", "-u", WEB_UNIT, "-o", "cat", "--no-pager"), re.M)
     await_true("what the code says", said)
     shutil.rmtree(folder)

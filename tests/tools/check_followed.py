@@ -46,7 +46,8 @@ def followed(yard: Yard, count: int) -> str:
     server, hand = yard.serve(new_device(yard, "followed", table)), Hand(dice, table)
     hand.connect(server)
     with Client.connect(server.port, 9) as client:
-        plant, told = FollowedPlant(client.table().alarms), list[int]()
+        seen = client.table()
+        plant, told = FollowedPlant(seen.alarms, seen.areas), list[int]()
         hand.ask(40)
         plant.begin(client)
         begun = plant.count
@@ -61,9 +62,41 @@ def followed(yard: Yard, count: int) -> str:
         told += looks(plant, client)
         check(without_counts(plant.rows) == rows_of(client), "behind a stream", plant.rows, rows_of(client))
         check(told == list(range(begun + 1, hand.count() + 1)), "it told", told)
+        mixes(plant, client, hand)
     hand.leave()
     server.end()
     return f"{len(told)} actions followed"
+
+
+def mixes(plant: FollowedPlant, client: Client, hand: Hand) -> None:
+    """A look says whether something that it has is newer than its count: where actions come between its rows, at each
+    turn, or between its floods; and no longer once they stop."""
+    for name in ("rows", "floods"):
+        true = getattr(client, name)
+
+        def hurried(asked: object, true: Callable = true) -> object:
+            acts(hand)
+            return true(asked)
+
+        setattr(client, name, hurried)
+        acts(hand)
+        looks(plant, client)
+        check(plant.is_mixed and newest(plant) > plant.count, "with actions between its", name, "it is of one count")
+        delattr(client, name)
+        looks(plant, client)
+        check(not plant.is_mixed and newest(plant) <= plant.count, "behind its", name, "it isn't of one count")
+
+
+def acts(hand: Hand) -> None:
+    """Asks until something more is accepted."""
+    before = len(hand.accepted)
+    while len(hand.accepted) == before:
+        hand.ask(5)
+
+
+def newest(plant: FollowedPlant) -> int:
+    """The greatest count of its rows and floods."""
+    return max(asked.count for asked in [*plant.rows, *plant.floods])
 
 
 # Each field of an alarm that the server has too, and what is another value of it.

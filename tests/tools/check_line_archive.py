@@ -211,4 +211,84 @@ def restored(yard: Yard, _count: int) -> str:
     return "a restored copy"
 
 
-CHECKS = {"by_lines": by_lines, "restarts": restarts, "restored": restored}
+def stopped(database: str, device: str) -> str:
+    """Archives a device that isn't served, as the units do; what that says."""
+    run = run_tool("archive", "run", device, database, "--stopped", "--existing", "--name", "plant")
+    check(run.returncode == 0, "--stopped:", run.stdout, run.stderr)
+    return run.stderr
+
+
+def is_whole(table: Table, database: str, plant: int, accepted: dict[int, str]) -> None:
+    """Each action of a plant is there once, and no gap is."""
+    numbers = {alarm.tag: number for number, alarm in enumerate(table.alarms)}
+    actions = rows_of(database, ACTIONS, plant)
+    found = {row[0]: request_of(row[2], numbers.get(row[3], -1), row[4]) for row in actions}
+    check(len(found) == len(actions) and found == accepted, "of plant", plant, "there is", found, "and not", accepted)
+    check({row[5] for row in actions} <= {CLOCK, FEED, CONSOLE, None}, "slots of plant", plant, actions)
+    check(rows_of(database, GAPS, plant) == [], "of plant", plant, "is missing", rows_of(database, GAPS, plant))
+
+
+def between(yard: Yard, count: int) -> str:
+    """Between two servers the device is archived, or a copy from before the next start; the archiver by lines goes on
+    behind it, whether it runs on or is started again. Nothing is missing, and nothing there twice. An older copy is
+    another plant, and whole too."""
+    dice = random.Random(11)
+    table = draw_plant(dice, 10, 2, 400_000)
+    device, database = new_device(yard, "between", table), yard.path("between.sqlite")
+    server, hand = yard.serve(device), Hand(dice, table)
+    running = archiver(database, server.port)
+    await_said(running, "a new archive\n")
+    turns = max(4, count // 500)
+    for turn in range(turns):
+        hand.connect(server)
+        hand.ask(60)
+        await_true("all of them", lambda: last_archived(database) == len(hand.accepted))
+        running.send_signal(signal.SIGSTOP)
+        hand.ask(40)
+        hand.leave()
+        server.end()
+        if turn == 0:
+            older, kept = shutil.copyfile(device, yard.path("older.device")), dict(hand.accepted)
+        server = archives_between(yard, server, device, database, is_copy=turn % 2 == 1)
+        check(last_archived(database) == len(hand.accepted), "--stopped left out the end of", len(hand.accepted))
+        if turn // 2 % 2:
+            running.kill()
+            running.communicate()
+            running = archiver(database, server.port)
+        else:
+            running.send_signal(signal.SIGCONT)
+    hand.connect(server)
+    hand.ask(60)
+    await_true("all of them", lambda: last_archived(database) == len(hand.accepted))
+    is_whole(table, database, 1, hand.accepted)
+    hand.leave()
+    server.end()
+    running.kill()
+    running.communicate()
+    stopped(database, device)
+    os.replace(older, device)
+    other = Hand(dice, table, hand.moment)
+    server = archives_between(yard, server, device, database, is_copy=True)
+    other.connect(server)
+    other.ask(60)
+    check(once(database, server.port) == "", "behind a copy it isn't whole")
+    is_whole(table, database, 1, hand.accepted)
+    is_whole(table, database, 2, {**kept, **other.accepted})
+    other.leave()
+    server.end()
+    return f"{len(hand.accepted)} actions over {turns} ends of a server"
+
+
+def archives_between(yard: Yard, server: Server, device: str, database: str, is_copy: bool) -> Server:
+    """The next server at the place of one that ended, and what that one's end left is archived: of the device before
+    it, or of a copy behind its start."""
+    if not is_copy:
+        stopped(database, device)
+        return yard.serve(device, server.port)
+    ended = shutil.copyfile(device, yard.path("plant.ended"))
+    following = yard.serve(device, server.port)
+    stopped(database, ended)
+    return following
+
+
+CHECKS = {"by_lines": by_lines, "restarts": restarts, "restored": restored, "between": between}

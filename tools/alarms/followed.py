@@ -1,22 +1,22 @@
-"""A served plant by its server's lines alone: its rows, and what happened.
+"""A served plant by its server's lines alone: its rows and floods, and what happened.
 
-    plant = FollowedPlant(table)
+    plant = FollowedPlant(table, areas)
     plant.begin(client)                 # asks for each row
     while True:
         news = plant.look(client)       # asks what happened, and for the rows that it made old
-        ..
+        ..                              # plant.is_mixed: not all that it has is of one count
 
 Between two counts a row differs only if an action between them names its alarm, or a CLOCK among them reaches the
 deadline that the row had.
 """
 from dataclasses import dataclass, field
 
-from .client import Client
+from .client import Client, Flood
 from .known import known
 from .replies import Entry, Row
 from .table_file import Alarm
 
-# How often a look goes on with what came while it asked for rows.
+# How often a look goes on with what came while it asked, until all is of one count.
 TURNS = 4
 
 
@@ -30,17 +30,28 @@ class Happenings:
 
 
 class FollowedPlant:
-    """The rows of a plant whose table this is, and the number of the last action that they are known to have."""
+    """The rows and the floods of a plant whose table this is, and the number of the last action that they are known to
+    have."""
 
-    def __init__(self, table: list[Alarm]):
-        self.table, self.rows, self.count = table, list[Row](), 0
+    def __init__(self, table: list[Alarm], areas: int):
+        self.table, self.areas = table, areas
+        self.rows, self.floods, self.count = list[Row](), list[Flood](), 0
         self.shelved: set[int] = set()
+        # The greatest count of a row or a flood.
+        self.newest = 0
+
+    @property
+    def is_mixed(self) -> bool:
+        """Whether rows or floods are newer than the count, so that some may have an action that others haven't."""
+        return self.newest > self.count
 
     def begin(self, client: Client) -> None:
         """Asks for all rows."""
         self.rows = client.rows(range(len(self.table)))
+        self.floods = client.floods(self.areas)
         self.shelved = {number for number, row in enumerate(self.rows) if row.deadline is not None}
         self.count = min(row.count for row in self.rows)
+        self.newest = max(*(row.count for row in self.rows), *(flood.count for flood in self.floods))
 
     def look(self, client: Client) -> Happenings:
         """What happened since. The server's `Refused` by FORGOTTEN says that it doesn't remember all of it: begin
@@ -58,7 +69,7 @@ class FollowedPlant:
         for _ in range(TURNS):
             old = {alarm for entry in client.entries(self.count) for alarm in self.take(entry, news)}
             self.ask(client, sorted(old), news)
-            if all(self.rows[alarm].count <= self.count for alarm in old):
+            if not self.is_mixed:
                 break
         return news
 
@@ -76,8 +87,11 @@ class FollowedPlant:
         return sorted(alarm for alarm in self.shelved if known(self.rows[alarm].deadline) <= entry.moment)
 
     def ask(self, client: Client, alarms: list[int], news: Happenings) -> None:
-        """Asks for rows again."""
+        """Asks for rows again, and for the floods."""
         for alarm, row in zip(alarms, client.rows(alarms)):
             news.before.setdefault(alarm, self.rows[alarm])
             self.rows[alarm] = row
+            self.newest = max(self.newest, row.count)
             (self.shelved.discard if row.deadline is None else self.shelved.add)(alarm)
+        self.floods = client.floods(self.areas)
+        self.newest = max(self.newest, *(flood.count for flood in self.floods))

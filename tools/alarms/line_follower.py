@@ -160,11 +160,11 @@ class LineFollower:
             self.served.forget()
             return Told([Replaced(last, None)])
         last = self.mirror.count
-        told = self.since(client, table, last) if self.served.count > last else Told()
-        if told is None or self.is_broken:
+        if self.is_broken:
             self.begun, self.is_broken = LineMirror.of_rows(client, table), False
             return Told([Gap(last + 1, self.mirror.count)])
-        return told
+        told = self.since(client, table, last) if self.served.count > last else Told()
+        return self.begin(client, table) if told is None else told
 
     def is_other(self, client: Client, table: Table) -> bool:
         """Whether the server has another plant than the one that is followed. That may be so at a new connection."""
@@ -177,7 +177,8 @@ class LineFollower:
         return False
 
     def begin(self, client: Client, table: Table) -> Told:
-        """Goes on behind what is archived, where the server remembers what came then."""
+        """Goes on behind what is archived, where the server remembers what came then. That may be more than was told
+        here: what was archived of the stopped device."""
         first = client.since().first
         plant = self.kept(table, first)
         if plant and plant.count <= self.served.count:
