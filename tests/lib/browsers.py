@@ -17,7 +17,11 @@ from .places import AT_TOOLS, EXAMPLES
 from alarms.client import CLOCK, FEED, Client
 from .program import Wrong, check
 from selenium import webdriver
-from selenium.common.exceptions import NoSuchElementException, StaleElementReferenceException
+from selenium.common.exceptions import (
+    ElementClickInterceptedException,
+    NoSuchElementException,
+    StaleElementReferenceException,
+)
 from selenium.webdriver import ActionChains, Keys
 from selenium.webdriver.chrome.options import Options
 from selenium.webdriver.chrome.service import Service
@@ -210,13 +214,16 @@ class Page:
 
     def click_tag(self, tag: str, is_more: bool) -> bool:
         """Clicks on the tag of a row; whether it is selected then. A row that moved just before isn't, nor is one that
-        was drawn again."""
+        was drawn again, nor one whose middle is below the list's head: that is scrolled to."""
         try:
             cell = self.driver.find_element(By.XPATH, f"//tbody[@id='rows']//td[contains(@class, 'tag') and .='{tag}']")
             if is_more:
                 ActionChains(self.driver).key_down(Keys.CONTROL).click(cell).key_up(Keys.CONTROL).perform()
             else:
                 cell.click()
+        except ElementClickInterceptedException:
+            self.js("arguments[0].scrollIntoView({block: 'center'})", cell)
+            return False
         except (NoSuchElementException, StaleElementReferenceException):
             return False
         row = self.row(tag)

@@ -27,6 +27,7 @@ PARTS = (
     "check_looks",
     "check_lost",
     "check_denied",
+    "check_mixed",
     "check_several",
     "check_doors",
     "check_listen",

@@ -42,7 +42,10 @@ DATA = ["anna", "plant", "pump in test", "permit 4711", *AREAS]
 
 
 def files(_yard: Yard, _count: int) -> str:
-    """Both files have each word that the page uses, and no other; each as it is in English."""
+    """Both files have each word that the page uses, and no other; each as it is in English. The script says nothing
+    that isn't told by them."""
+    untold = list(page_words.untold())
+    check(not untold, "the script says what no file tells:", untold)
     used, english, german = page_words.used(), *(load_file(WORDS / f"{code}.toml").words for code in ("en", "de"))
     for name, words in (("en", english), ("de", german)):
         missing, more = [word for word in used if word not in words], [word for word in words if word not in used]
@@ -147,6 +150,11 @@ def walks_actions(plant: Plant, page: Page, walk: Walk) -> None:
         page.answer("pump in test", **more)
         page.until("an answer", lambda: "⟦" in page.of("#said") and page.of("#said") != "..")
         walk.look(f"the answer to {act}")
+    page.press(Keys.ESCAPE)
+    page.choose("TI-102", "LI-110")
+    page.act("SHELVE")
+    walk.look("a dialog of two alarms")
+    page.click("#asking-leave")
     plant.comes("TI-103")
     walk.look("what is new")
 

@@ -21,11 +21,6 @@ from check_since import act
 
 PLANT, REFINERY = str(EXAMPLES / "plant.toml"), str(EXAMPLES / "refinery.toml")
 MAP = "name,tag,silent,watch\na,TI-101,60,YS-124\n"
-PROMETHEUS = """global: {scrape_interval: 1s, evaluation_interval: 1s}
-scrape_configs:
-  - {job_name: alarms, static_configs: [{targets: ["%s"]}]}
-  - {job_name: alarms-feed, static_configs: [{targets: ["%s"]}]}
-"""
 DAY = 86_400
 
 
@@ -327,9 +322,8 @@ def dashboard(yard: Yard) -> str:
     )
     pages[1].stdin.write("a,3000\n")
     pages[1].stdin.flush()
-    jobs = [await_said(page, "/metrics").split("http://")[1].split("/")[0] for page in pages]
-    config = yard.write("prometheus.yml", PROMETHEUS % tuple(jobs))
-    port = free_ports()
+    places = [await_said(page, "/metrics").split("http://")[1].split("/")[0] for page in pages]
+    config, port = scraping(yard, dict(zip(("alarms", "alarms-feed"), places))), free_ports()
     words = [
         f"--config.file={config}",
         f"--storage.tsdb.path={yard.path('tsdb')}",
@@ -348,6 +342,24 @@ def dashboard(yard: Yard) -> str:
         stop(page)
     server.end()
     return f"{len(panels)} panels"
+
+
+def scraping(yard: Yard, places: dict[str, str]) -> str:
+    """The example of what Prometheus reads, over pages of jobs at places of their own, each second. Each job of a rule
+    is one of its, and Prometheus' own tool takes it."""
+    text = (DEPLOY / "prometheus" / "prometheus.yml").read_text(encoding="utf-8")
+    jobs = dict(re.findall(r"(?m)^  - job_name: (\S+)\n    static_configs: \[{targets: \[\"(\S+)\"\]}\]$", text))
+    rules = DEPLOY / "prometheus" / "alarms.rules.yml"
+    named = set(re.findall(r'up\{job="([^"]*)"\}', rules.read_text(encoding="utf-8")))
+    check(named == set(jobs), "rules name the jobs", named, "and Prometheus reads", jobs)
+    text = text.replace("[alarms.rules.yml]", f"[{rules}]")
+    for job, place in jobs.items():
+        text = text.replace(place, places.get(job, "127.0.0.1:1"))
+    config = yard.write("prometheus.yml", "global: {scrape_interval: 1s, evaluation_interval: 1s}\n" + text)
+    if shutil.which("promtool"):
+        run = subprocess.run(["promtool", "check", "config", config], capture_output=True, text=True, timeout=60)
+        check(run.returncode == 0, run.stdout, run.stderr)
+    return config
 
 
 def queried(port: int, expression: str) -> list[object]:

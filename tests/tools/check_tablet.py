@@ -19,7 +19,8 @@ const linesOf = one => {
     const range = document.createRange();
     range.selectNodeContents(one);
     let lines = 0, bottom = -Infinity;
-    for (const part of [...range.getClientRects()].filter(part => part.width > 1 && part.height > 1).sort((a, b) => a.top - b.top)) {
+    const parts = [...range.getClientRects()].filter(part => part.width > 1 && part.height > 1);
+    for (const part of parts.sort((a, b) => a.top - b.top)) {
         if (part.top > bottom - 4) lines++;
         bottom = Math.max(bottom, part.bottom);
     }
@@ -35,7 +36,13 @@ const isOut = one => {
     }
     return box.right > innerWidth + 1;
 };
-return [...document.querySelectorAll('button')].filter(isSeen).map(one => [linesOf(one) > 1 ? 'wraps' : isOver(one) || [...one.children].some(isOver) ? 'is cut' : isOut(one) ? 'is outside' : '', one.textContent, one.id || one.parentElement.id]).filter(one => one[0])"""
+const faultOf = one => {
+    if (linesOf(one) > 1) return 'wraps';
+    if (isOver(one) || [...one.children].some(isOver)) return 'is cut';
+    return isOut(one) ? 'is outside' : '';
+};
+return [...document.querySelectorAll('button')].filter(isSeen)
+    .map(one => [faultOf(one), one.textContent, one.id || one.parentElement.id]).filter(one => one[0])"""
 
 
 def tablet(yard: Yard, _count: int) -> str:

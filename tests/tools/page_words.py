@@ -9,6 +9,18 @@ from alarms.browser import language
 from alarms.browser.language import key_of
 from lib.places import TOOLS
 
+# A comment; a text of the script, in which a value may stand; and a text that somebody could read: several words, a
+# word beside a value, or one with a capital.
+COMMENT = re.compile(r"/\*.*?\*/|(?<!:)//[^\n]*", re.DOTALL)
+VALUE = re.compile(r"\$\{[^{}`]*(?:\{[^{}`]*\}[^{}`]*)*\}")
+TEXT = re.compile(r'"((?:[^"\\\n]|\\.)*)"|`((?:[^`\\]|\\.)*)`')
+READ = re.compile(r"^[A-Z][a-z]|[A-Za-z]{2,}.* | .*[A-Za-z]{2,}")
+# What reads so and is none: the protocol's words, keys, parts of the page, and what browsers and requests have.
+UNREAD = {"OOS ON", "OOS OFF", "FLOOD END", "ArrowDown", "ArrowUp", "ArrowLeft", "ArrowRight", "PageDown", "PageUp"}
+UNREAD |= {"Home", "End", "Enter", "value number", "limit number", "left number", "c-number number", "c-value number"}
+UNREAD |= {"c-limit number", "c-left number", "#columns .c-tag", "minmax(0, fr)", "(prefers-color-scheme: dark)"}
+UNREAD |= {"label:not([hidden]) :is(select, input)", "#list:hover, #newcomers:hover", "input, select, textarea"}
+UNREAD |= {"event: ", "data: ", "Content-Type", "TimeoutError", "BroadcastChannel", "no reply"}
 BROWSER = TOOLS / "alarms" / "browser"
 PAGE = BROWSER / "page"
 # A text that is told by t(..), or is noted for that by w(..).
@@ -20,6 +32,16 @@ SAYS = {"orders.py": ("TAKE", "LEAVE"), "positions.py": ("TAKE", "LEAVE"), "web.
 def script_words() -> Iterator[str]:
     for path in sorted(PAGE.glob("*.js")):
         yield from (found.replace('\\"', '"') for found in TOLD.findall(path.read_text(encoding="utf-8")))
+
+
+def untold() -> Iterator[str]:
+    """What the script says that an operator could read, and that is told by no file: a line each."""
+    for path in sorted(PAGE.glob("*.js")):
+        script = TOLD.sub("", COMMENT.sub("", path.read_text(encoding="utf-8")))
+        for plain, with_values in TEXT.findall(script):
+            text = VALUE.sub("", plain or with_values)
+            if READ.search(text) and text not in UNREAD:
+                yield f"{path.name}: {text!r}"
 
 
 def page_words() -> Iterator[str]:

@@ -4,7 +4,6 @@ Each action is done by clicks and keys. What it is to bring about is worked out 
 from the count (shift_world.py), before it is done.
 """
 import collections
-import contextlib
 import os
 import random
 import time
@@ -15,7 +14,7 @@ from check_screen import screen
 from lib.browsers import AREAS, Page
 from lib.program import Wrong, check
 from lib.tools import await_true
-from selenium.common.exceptions import ElementNotInteractableException
+from selenium.common.exceptions import ElementClickInterceptedException, ElementNotInteractableException
 from selenium.webdriver import Keys
 from shift_world import World
 
@@ -34,8 +33,9 @@ SCREENS = ((1280, 720, False), (1920, 1080, False), (820, 1180, True))
 # The tags of the whole rows on the screen that nobody has acknowledged, in their order; and of all whole rows.
 SHOWN = """const list = document.getElementById('list').getBoundingClientRect(),
 top = document.getElementById('columns').getBoundingClientRect().bottom;
-return [...document.querySelectorAll('#rows tr' + arguments[0])].filter(row => row.getBoundingClientRect().top >= top - 2
-&& row.getBoundingClientRect().bottom <= list.bottom + 2).map(row => row.querySelector('td.tag').textContent)"""
+return [...document.querySelectorAll('#rows tr' + arguments[0])]
+.filter(row => row.getBoundingClientRect().top >= top - 2 && row.getBoundingClientRect().bottom <= list.bottom + 2)
+.map(row => row.querySelector('td.tag').textContent)"""
 # Notes when each annunciation is first drawn, in milliseconds: by its tag and its time of the day.
 WATCH = """window.at = {}; const note = () => { const now = Date.now(); for (const row of document.querySelectorAll(
 '#rows tr.unacknowledged')) { const cells = row.children; if (cells[2]?.classList.contains('time'))
@@ -226,9 +226,12 @@ class Operator:
     def follows_newcomers(self) -> None:
         """What came above the screen while the list held still."""
         if "new above" in self.page.of("#new-above"):
-            with contextlib.suppress(ElementNotInteractableException):  # the list came free just before
+            try:
                 self.page.click("#new-above")
                 self.counts["newcomers"] += 1
+            except (ElementNotInteractableException, ElementClickInterceptedException):
+                gone = self.page.js("return document.getElementById('new-above').className === 'none'")
+                check(gone, "what is new is offered, and can't be pressed")  # else the list came free just before
             self.page.leave()
 
     def turn(self) -> None:
