@@ -5,16 +5,17 @@
 
 Each link to a file of the repository leads to one, and to a heading of it where it names one. Each block of Rust that a
 page of docs/ quotes stands in a source, whatever its spaces. The counts of wrong bodies and of crates below the program
-are the tree's. The sums of docs/proof/BELIEVED.md stand in docs/proof/README.md. Each call that a root file names as
-carrying a claim is in the code of its crate or of those below it. docs/ALARMS.md has each law. Each wrong body and each
-wrong model applies: `rt ci` passes over a body that doesn't. A body changes code alone, but in
-the crates of laws, which have none.
+are the tree's, as are those of CONTRIBUTING and the files that it names (counted.py). The sums of
+docs/proof/BELIEVED.md stand in docs/proof/README.md. Each call that a root file names as carrying a claim is in the
+code of its crate or of those below it. docs/ALARMS.md has each law. Each wrong body and each wrong model applies:
+`rt ci` passes over a body that doesn't. A body changes code alone, but in the crates of laws, which have none.
 """
 import re
 import sys
 from pathlib import Path
 
 import proved as root_files
+from counted import counted
 
 TOP = Path(__file__).resolve().parents[2]
 PROOF = TOP / "docs" / "proof"
@@ -225,7 +226,7 @@ def models(found):
 
 def main():
     found = Found()
-    for look in (links, quotes, counts, promise, waits, edits, believed, claims, laws, models):
+    for look in (links, quotes, counts, promise, waits, edits, believed, claims, laws, models, counted):
         look(found)
     if found.wrong:
         sys.exit("\n".join(f"pages.py: {wrong}" for wrong in found.wrong))

@@ -39,7 +39,6 @@ GROUPS = {
         "alm_file",
         "alm_sum",
         "alm_codec",
-        "alm_summed",
         "alm_segment",
         "alm_checkpoint",
         "alm_store",

@@ -27,7 +27,8 @@ what the server shows (ROW). What differs is logged, and told by reports and by 
 
 With --once it archives what is there and ends. With --seconds S it ends after S seconds. With --stopped, before a
 stopped device is put aside, nothing of it is missing; else the archive has a gap with an open end where the next plant
-begins. The server's unit does that once it is stopped, with --existing.
+begins. The units do that with --existing, once the server is stopped and over a copy from before its next start. An
+archiver by lines goes on from there.
 """
 import argparse
 import contextlib
@@ -81,8 +82,7 @@ def run_stopped(chosen: argparse.Namespace, name: str) -> None:
     ) as follower:
         archiver = Archiver(store, name, follower)
         try:
-            while archiver.look():
-                pass
+            archiver.look_on()
         except Damaged as damage:
             archiver.close_damaged(damage.at)
             raise
@@ -90,6 +90,9 @@ def run_stopped(chosen: argparse.Namespace, name: str) -> None:
         if reading.closed:
             archiver.close_damaged(reading.closed.at)
             raise NoDevice(str(reading.closed))
+        if archiver.is_behind():
+            archiver.restart()
+            archiver.look_on()
         archiver.close()
         if reading.damage:  # of a checkpoint that the half before it made up for
             raise reading.damage
@@ -133,8 +136,7 @@ def run(chosen: argparse.Namespace) -> None:
 
 def archive_once(archiver: Archiver, served: Served) -> None:
     """Archives what the server shows by now."""
-    while archiver.look():
-        pass
+    archiver.look_on()
     if not served.is_there or archiver.kept is None:
         raise Lost(served.said or f"{archiver.follower.path} isn't the server's device")
     print(f"{archiver.name}: plant {archiver.plant.number}, {archiver.plant.last} actions")

@@ -79,6 +79,15 @@ class Archiver:
             self.check.keep_news(self.store, self.plant.number, self.name, self.tags)
         return any_news
 
+    def look_on(self) -> None:
+        """Archives what is new until there is nothing."""
+        while self.look():
+            pass
+
+    def is_behind(self) -> bool:
+        """Whether all of a stopped device is less than what is archived: it is an older copy, and another plant."""
+        return self.model.count < self.plant.last
+
     def kept_state(self, table: Table, first: int) -> Optional[PlantModel]:
         """The plant that was archived last, for a follower that goes by lines."""
         last = None if self.forced else latest(self.store, self.name)
@@ -229,7 +238,8 @@ class Archiver:
         )
 
     def close(self) -> None:
-        """The device's end is archived."""
+        """The device's end is archived. From there an archiver by lines goes on."""
+        keep_state(self.store, self.plant.number, self.model)
         self.store.run("UPDATE plant SET ends = ? WHERE plant = ?", (self.plant.last, self.plant.number))
         self.store.commit()
 

@@ -12,6 +12,7 @@ from typing import Callable, Iterator, Optional, TypeVar
 
 from .actions import Action
 from .ending import Fault
+from .device_frames import frame_fault, head_of_frame, sum_fault
 from .device_rules import (
     ACTION,
     ACTIONS,
@@ -23,7 +24,6 @@ from .device_rules import (
     HEADER,
     OF_HEADER,
     Broken,
-    frame_fault,
     head_fault,
     header_fault,
     image_fault,
@@ -167,8 +167,11 @@ class DeviceFile:
         text = self.whole(start, min(FRAME_HEAD, room))
         if text[:1] != bytes([GATE_OPEN]):
             return None
-        self.judge(head.half, start, frame_fault(text, room, head.epoch, first))
-        return self.body_at(head, at, first, int.from_bytes(text[17:], "big"))
+        self.judge(head.half, start, frame_fault(text, room, head.epoch, first, head.mark))
+        count = head_of_frame(text, head.mark).actions
+        body = self.whole(start + FRAME_HEAD, ACTION * count)
+        self.judge(head.half, start, sum_fault(text, body, head.mark))
+        return self.body_at(head, at, first, count)
 
     def body_at(self, head: Head, at: int, first: int, count: int) -> Frame:
         """The actions of a frame behind its head, which says how many they are."""

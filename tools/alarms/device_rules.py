@@ -24,7 +24,8 @@ HEADER, HEAD, FRAME_HEAD, ACTION = 23, 25, 19, 16
 AREA_IMAGE, ALARM_IMAGE = 4801, 182
 # The number that stands for the header where a half is named.
 OF_HEADER = 2
-NAMES = (b"ALMSRV01", b"ALMSRV02")
+# The marks that a half may have, by the name in the header.
+MARKS = {b"ALMSRV01": (0, 2), b"ALMSRV02": (2,), b"ALMSRV03": (253,)}
 MOMENTS, COUNTS = 2**40, 2**48
 WINDOW, FLOOD_BELOW, FLOOD_ABOVE = 600, 5, 10
 FRAME_ACTIONS = 256
@@ -42,7 +43,7 @@ ACTIONS = {
     10: "SETP",
 }
 # The last kind of action in a half, by its mark.
-LAST_KIND = {0: 8, 2: 10}
+LAST_KIND = {0: 8, 2: 10, 253: 10}
 # The argument of each kind, from the least to the greatest.
 VALUES, NUMBERS, SWITCH = (-READING_LIMIT, READING_LIMIT), (0, 2**32 - 1), (0, 1)
 ARGUMENTS = {1: (0, MOMENTS - 1), 2: VALUES, 5: NUMBERS, 7: SWITCH, 8: SWITCH, 9: NUMBERS, 10: VALUES}
@@ -76,7 +77,7 @@ def header_fault(header: bytes, size: int) -> Optional[Broken]:
     return first_broken(
         iter(
             [
-                (1, "name", name in NAMES),
+                (1, "name", name in MARKS),
                 (9, "rows", 1 <= rows <= ALARM_LIMIT),
                 (13, "areas", 1 <= areas <= AREA_LIMIT),
                 (15, "L", fits),
@@ -88,28 +89,14 @@ def header_fault(header: bytes, size: int) -> Optional[Broken]:
 def head_fault(head: bytes, name: bytes, image: int) -> Optional[Broken]:
     """What is wrong with the head of a half that stands, under a header of this name and with images of this length."""
     marked, length = struct.unpack(">QQ", head[9:])
-    is_marked = marked >> 56 in LAST_KIND and (name == NAMES[0] or marked >> 56 != 0)
     return first_broken(
         iter(
             [
-                (9, "mark and count", is_marked and marked & (2**56 - 1) <= COUNTS),
+                (9, "mark and count", marked >> 56 in MARKS[name] and marked & (2**56 - 1) <= COUNTS),
                 (17, "length of the image", length == image),
             ]
         )
     )
-
-
-def frame_fault(head: bytes, room: int, epoch: int, number: int) -> Optional[Broken]:
-    """What is wrong with the head of a frame, as far as its segment has it, where there is this much room from its gate
-    on."""
-    if room < 9 or int.from_bytes(head[1:9], "big") != epoch:
-        return Broken(1, "epoch of a frame")
-    if room < 17 or int.from_bytes(head[9:17], "big") != number:
-        return Broken(9, "number of a frame's first action")
-    count = int.from_bytes(head[17:19], "big")
-    if room < FRAME_HEAD or not 1 <= count <= FRAME_ACTIONS or FRAME_HEAD + ACTION * count >= room:
-        return Broken(17, "n: how many actions a frame has")
-    return None
 
 
 def text_fault(text: bytes, mark: int) -> Optional[Broken]:

@@ -13,7 +13,8 @@ from typing import Callable, Optional, Union
 
 from .actions import Action
 from .device_file import Damaged, DeviceFile, Frame, Head
-from .device_rules import ACTION, COUNTS, FRAME_ACTIONS, FRAME_HEAD, GATE_OPEN
+from .device_frames import head_of_frame, shown
+from .device_rules import ACTION, COUNTS, FRAME_HEAD, GATE_OPEN
 from .table_file import READING_LIMIT
 from .known import known
 from .model import ACKNOWLEDGED, BY_DESIGN, OUT_OF_SERVICE, SHELVED, AlarmState, PlantModel
@@ -225,13 +226,9 @@ def actions_at(device: DeviceFile, head: Head, at: int, first: int) -> int:
     """How many actions the frame at a place says that it has, whatever its gate is, if the rest of its head is
     whole."""
     text = device.read(device.segment_at(head.half) + at, FRAME_HEAD) if at + FRAME_HEAD < device.segment else b""
-    epoch, number, count = (int.from_bytes(text[begin:end], "big") for begin, end in ((1, 9), (9, 17), (17, 19)))
-    is_whole = (
-        (epoch, number) == (head.epoch, first)
-        and 1 <= count <= FRAME_ACTIONS
-        and at + FRAME_HEAD + ACTION * count < device.segment
-    )
-    return count if is_whole else 0
+    found = head_of_frame(text, head.mark)
+    is_whole = (found.epoch, found.number) == (head.epoch, shown(head.mark, first)) and found.end(at) < device.segment
+    return found.actions if is_whole else 0
 
 
 def last_open(device: DeviceFile, head: Head, at: int, first: int) -> Optional[int]:

@@ -24,7 +24,8 @@ from .arguments import Parser
 from .ending import Fault, end_of, sayer
 from .actions import Action
 from .device_file import Damaged, DeviceFile, Frame, Head, action_of
-from .device_rules import ACTION, FRAME_HEAD, GATE_OPEN, text_fault
+from .device_frames import SUMMED, head_of_frame
+from .device_rules import ACTION, FRAME_ACTIONS, FRAME_HEAD, GATE_OPEN, text_fault
 from .export import lines
 from .plant_lines import KEPT_BACK, TableChange, StoppedPlant, read_plant
 from .table_file import Table, load_table
@@ -143,7 +144,7 @@ def left_out(device: DeviceFile, found: Salvaged) -> Iterator[Frame]:
     segment = device.read(device.segment_at(found.head.half), device.segment)
     at = next(starts(device, found, segment), None)
     while at is not None:
-        number = number_at(segment, at)
+        number = number_at(segment, at, found)
         count = actions_at(device, found.head, at, number)
         end = at + FRAME_HEAD + ACTION * count
         yield Frame(list(readable(segment, at, number, count, found)), end)
@@ -157,15 +158,21 @@ def starts(device: DeviceFile, found: Salvaged, segment: bytes) -> Iterator[int]
     is_ended = segment[at] != GATE_OPEN and not closed_gate(device, Judged(found.head, found.plant, at, None))
     at = segment.find(mark, at + 1) if is_ended else at
     while at >= 0:
-        number, most = number_at(segment, at), count + 1 if at == found.end else count + 1 + device.segment // ACTION
+        number, most = (
+            number_at(segment, at, found),
+            count + 1 if at == found.end else count + 1 + device.segment // ACTION,
+        )
         if number <= most and number + actions_at(device, found.head, at, number) > count + 1:
             yield at
         at = segment.find(mark, at + 1)
 
 
-def number_at(segment: bytes, at: int) -> int:
-    """What a frame at a place says of the number of its first action."""
-    return int.from_bytes(segment[at + 9 : at + 17], "big")
+def number_at(segment: bytes, at: int, found: Salvaged) -> int:
+    """What a frame at a place says of the number of its first action. Where it shows half of it, that is the least one
+    of a frame that has a later action than the last one brought."""
+    number = head_of_frame(segment[at : at + FRAME_HEAD], found.head.mark).number
+    least = max(1, found.plant.count + 2 - FRAME_ACTIONS)
+    return least + (number - least) % 2**32 if found.head.mark == SUMMED else number
 
 
 def readable(segment: bytes, at: int, number: int, count: int, found: Salvaged) -> Iterator[Action]:

@@ -1,6 +1,6 @@
 -- For the proofs.
 -- What a look at what happened returns.
-use Rattle.std.specs.Prelude.{◌≡◌, ◌+◌, ℕ, List, Option, Some, Result, Ok, Err, true, false, length}
+use Rattle.std.specs.Prelude.{◌≡◌, ◌+◌, ℕ, List, Option, Result, Ok, Err, true, false, length}
 use Rattle.alm_types.specs.declared.event.Event.{Event}
 use Rattle.alm_types.specs.declared.logged_action.LoggedAction.{LoggedAction}
 use Rattle.alm_types.specs.declared.refusal.Refusal.{Refusal}

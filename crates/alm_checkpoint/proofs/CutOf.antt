@@ -222,7 +222,7 @@ cut_at device l h t base plant left fits e_layout e_half e_told spells folds =
     let c = cut_here device l h t base f.frames in
     let counted : t.count ≡ base.panel.count = sym spells.sizes.by_count in
     let start : List ℕ = 165 ∷ header_text l ++ before h c.other in
-    let text : List ℕ = frames_text t.epoch base.panel.count f.frames in
+    let text : List ℕ = frames_text t.version t.epoch base.panel.count f.frames in
     let half : half_bytes l h device ≡ (165 ∷ half_head_text l t.version t.epoch base.panel.count) ++ image_text base ++ (text ++ f.gate ∷ f.tail) =
     half_parts l h device
     ∙ ap (λ (m : List ℕ). m ++ part (image_at l h) (image_size l) device ++ segment) tl.mark

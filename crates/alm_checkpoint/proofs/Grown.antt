@@ -24,29 +24,29 @@ count_is c plant s = ap (λ (q : Condensed). q.panel.count) (sym s.runs) ∙ run
 
 -- the frame's text after an open gate is a frame more
 pub pushed_text : (c : Cut) (plant : Condensed) (list : List Action) → Stores c plant
-    → frames_text c.epoch c.base.panel.count c.frames ++ 165 ∷ frame_text c.epoch (plant.panel.count + 1) list ≡ frames_text c.epoch c.base.panel.count (with_frame c list).frames
+    → frames_text c.version c.epoch c.base.panel.count c.frames ++ 165 ∷ frame_text c.version c.epoch (plant.panel.count + 1) list ≡ frames_text c.version c.epoch c.base.panel.count (with_frame c list).frames
 pushed_text c plant list s =
-    ap (λ (n : ℕ). frames_text c.epoch c.base.panel.count c.frames ++ 165 ∷ frame_text c.epoch (n + 1) list) (count_is c plant s)
-    ∙ sym (text_pushed c.epoch c.base.panel.count c.frames list)
+    ap (λ (n : ℕ). frames_text c.version c.epoch c.base.panel.count c.frames ++ 165 ∷ frame_text c.version c.epoch (n + 1) list) (count_is c plant s)
+    ∙ sym (text_pushed c.version c.epoch c.base.panel.count c.frames list)
 
 regroup : (s m i f x t e : List ℕ) → s ++ (m ++ i ++ f) ++ (x ++ t) ++ e ≡ s ++ (m ++ i ++ (f ++ x)) ++ t ++ e
 regroup s m i f x t e = simp append_assoc
 
-pub pushes : (c : Cut) (plant : Condensed) (list : List Action) (tail : List ℕ) → Stores c plant → device_of c (165 ∷ frame_text c.epoch (plant.panel.count + 1) list ++ tail) ≡ device_of (with_frame c list) tail
+pub pushes : (c : Cut) (plant : Condensed) (list : List Action) (tail : List ℕ) → Stores c plant → device_of c (165 ∷ frame_text c.version c.epoch (plant.panel.count + 1) list ++ tail) ≡ device_of (with_frame c list) tail
 pushes c plant list tail s =
     let start : List ℕ = 165 ∷ header_text c.layout ++ before c.half c.other in
     let mark : List ℕ = 165 ∷ half_head_text c.layout c.version c.epoch c.base.panel.count in
-    regroup start mark (image_text c.base) (frames_text c.epoch c.base.panel.count c.frames) (165 ∷ frame_text c.epoch (plant.panel.count + 1) list) tail (back c)
+    regroup start mark (image_text c.base) (frames_text c.version c.epoch c.base.panel.count c.frames) (165 ∷ frame_text c.version c.epoch (plant.panel.count + 1) list) tail (back c)
     ∙ ap (λ (f : List ℕ). start ++ (mark ++ image_text c.base ++ f) ++ tail ++ back c) (pushed_text c plant list s)
 
-pub reaches_pushed : (c : Cut) (plant : Condensed) (list : List Action) (tail : List ℕ) → Stores c plant → Reaches c (165 ∷ frame_text c.epoch (plant.panel.count + 1) list ++ tail) → Reaches (with_frame c list) tail
+pub reaches_pushed : (c : Cut) (plant : Condensed) (list : List Action) (tail : List ℕ) → Stores c plant → Reaches c (165 ∷ frame_text c.version c.epoch (plant.panel.count + 1) list ++ tail) → Reaches (with_frame c list) tail
 reaches_pushed c plant list tail s reaches =
     omega (
       arith,
       reaches,
       ap length (pushed_text c plant list s),
-      length-append (165 ∷ frame_text c.epoch (plant.panel.count + 1) list) tail,
-      length-append (frames_text c.epoch c.base.panel.count c.frames) (165 ∷ frame_text c.epoch (plant.panel.count + 1) list),
+      length-append (165 ∷ frame_text c.version c.epoch (plant.panel.count + 1) list) tail,
+      length-append (frames_text c.version c.epoch c.base.panel.count c.frames) (165 ∷ frame_text c.version c.epoch (plant.panel.count + 1) list),
     )
 
 pub stores_pushed : (c : Cut) (plant : Condensed) (list : List Action) → Stores c plant → IsFrame c.epoch (plant.panel.count + 1) list → AreBorne c.version list → AreAdmitted plant list → Stores (with_frame c list) (run plant list)
@@ -79,5 +79,5 @@ gate_at c plant tail s reaches =
     omega (
       arith,
       reaches,
-      front_length c.layout c.half (165 ∷ half_head_text c.layout c.version c.epoch c.base.panel.count) (image_text c.base) (frames_text c.epoch c.base.panel.count c.frames) c.other refl (image_is_long c.layout c.base s.sizes s.image) s.size,
+      front_length c.layout c.half (165 ∷ half_head_text c.layout c.version c.epoch c.base.panel.count) (image_text c.base) (frames_text c.version c.epoch c.base.panel.count c.frames) c.other refl (image_is_long c.layout c.base s.sizes s.image) s.size,
     )

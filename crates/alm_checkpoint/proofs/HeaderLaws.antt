@@ -1,13 +1,13 @@
 -- The texts of headers and heads are read as what was written, and what is read is encoded so.
-use Rattle.std.proofs.Common.{◌≡◌, ℕ, ◌-◌, ◌^◌, ◌<◌, ◌≤◌, Bool, true, false, ◌&&◌, cond, eqb, leb, List, [], ◌++◌, Some, None, Ok, inl, inr, refl, sym, ap, subst, ◌∙◌, arith}
+use Rattle.std.proofs.Common.{◌≡◌, ℕ, ◌+◌, ◌-◌, ◌^◌, ◌<◌, ◌≤◌, Bool, true, false, ◌&&◌, cond, eqb, leb, List, [], ◌++◌, Option, Some, None, Ok, inl, inr, refl, sym, ap, subst, ◌∙◌, arith}
 use Rattle.std.specs.Prelude.{bytes_eq}
 use Rattle.std.specs.Int.{w16, w32, w64}
-use Rattle.std.proofs.lemmas.Bool.{eqb-true, leb-true, le-leb, eq-eqb, and_parts}
+use Rattle.std.proofs.lemmas.Bool.{eqb-true, leb-true, le-leb, eq-eqb, and_parts, and_from, lt-leb}
 use Rattle.std.proofs.lemmas.Slice.Eq.{bytes_eq-Decides}
 use Rattle.std.proofs.lemmas.Option.{same_Some, none-some}
 use Rattle.std.proofs.lemmas.List.{append-nil}
 use Rattle.alm_codec.specs.declared.version.Version.{Version}
-use Rattle.alm_codec.specs.declared.version.Version.TheVariants.{V01, V02}
+use Rattle.alm_codec.specs.declared.version.Version.TheVariants.{V01, V02, V03}
 use Rattle.alm_codec.proofs.Bytes.{chosen}
 use Rattle.alm_codec.specs.Format.{Format, number_field, raw, tested_field, both}
 use Rattle.alm_codec.specs.Reading.{IsBytes}
@@ -16,7 +16,7 @@ use Rattle.alm_codec.proofs.Formats.{Lawful, number_lawful, raw_lawful, coded_la
 use Rattle.alm_checkpoint.specs.declared.layout.Layout.{Layout}
 use Rattle.alm_checkpoint.specs.declared.half_head.HalfHead.{HalfHead}
 use Rattle.alm_checkpoint.specs.Layouts.{device_len, image_size, is_rows, is_areas, is_segment}
-use Rattle.alm_checkpoint.specs.Headers.{device_name, version_named, name, of_rows, segment_fits, header, header_text, mark_weight, mark_of, is_first, allows, is_count, mark_read, mark, half_head, half_head_text}
+use Rattle.alm_checkpoint.specs.Headers.{device_name, version_named, name, of_rows, segment_fits, header, header_text, mark_weight, mark_of, allows, is_count, has_mark, mark_read, mark, half_head, half_head_text}
 
 -- ---- a field that passes a test
 
@@ -49,13 +49,19 @@ text_is text v e = (bytes_eq-Decides text (device_name v)).0 e
 
 named_is : (text : List ℕ) (v : Version) → (raw 8).Keeps text → version_named text ≡ Some v → text ≡ device_name v
 named_is text v h e =
-    elim (chosen (bytes_eq text (device_name V01)) (Some V01) (cond (bytes_eq text (device_name V02)) (Some V02) None) (Some v) e) [
+    elim (chosen (named V01) (Some V01) (cond (named V02) (Some V02) (cond (named V03) (Some V03) None)) (Some v) e) [
       | inl (t, s) ↦ text_is text V01 t ∙ ap device_name (same_Some V01 v s)
-      | inr (t, s) ↦ elim (chosen (bytes_eq text (device_name V02)) (Some V02) None (Some v) s) [
+      | inr (t, s) ↦ elim (chosen (named V02) (Some V02) (cond (named V03) (Some V03) None) (Some v) s) [
         | inl (u, r) ↦ text_is text V02 u ∙ ap device_name (same_Some V02 v r)
-        | inr (u, r) ↦ absurd (none-some v r)
+        | inr (u, r) ↦ elim (chosen (named V03) (Some V03) None (Some v) r) [
+          | inl (w, q) ↦ text_is text V03 w ∙ ap device_name (same_Some V03 v q)
+          | inr (w, q) ↦ absurd (none-some v q)
+        ]
       ]
     ]
+  where
+    named : Version → Bool
+    named version = bytes_eq text (device_name version)
 
 name_lawful : Lawful name
 name_lawful = coded_lawful (raw 8) version_named device_name (raw_lawful 8) named_is
@@ -63,6 +69,7 @@ name_lawful = coded_lawful (raw 8) version_named device_name (raw_lawful 8) name
 name_keeps : (v : Version) → name.Keeps v
 name_keeps V01 = (refl, refl)
 name_keeps V02 = (refl, refl)
+name_keeps V03 = (refl, refl)
 
 fields_lawful : (size : ℕ) → Lawful (fields_in size)
 fields_lawful size =
@@ -137,34 +144,59 @@ pub record IsMark (header : Version) (n : ℕ) (m : Version × ℕ) : Type 0 whe
 abbrev pair : Version → ℕ → Version × ℕ
 pair v n = (v, n)
 
+-- the field is one with the mark of this version
+marked_is : (header half : Version) (n : ℕ) → has_mark header half n ≡ true → IsMark header n (pair half (n - mark_weight half))
+marked_is header half n e =
+    let outer = and_parts (allows header half && leb (mark_weight half) n) (is_count (n - mark_weight half)) e in
+    let inner = and_parts (allows header half) (leb (mark_weight half) n) outer.0 in
+    let large : mark_weight half ≤ n = leb-true (mark_weight half) n inner.1 in
+    record { is = omega (arith, large); allowed = inner.0; count = leb-true (n - mark_weight half) (2 ^ 48) outer.1 }
+
+abbrev read_as : Version → ℕ → Option (Version × ℕ)
+read_as half n = Some (pair half (n - mark_weight half))
+
 pub unmarked_is : (header : Version) (n : ℕ) (m : Version × ℕ) → mark_read header n ≡ Some m → IsMark header n m
 unmarked_is header n m e =
-    elim (chosen (is_count n && is_first header) (Some (pair V01 n)) (cond (leb (mark_weight V02) n && is_count (n - mark_weight V02)) (Some (pair V02 (n - mark_weight V02))) None) (Some m) e) [
-      | inl (t, s) ↦
-          (let k = and_parts (is_count n) (is_first header) t in
-          subst (IsMark header n) (same_Some (pair V01 n) m s) (record { is = omega arith; allowed = k.1; count = leb-true n (2 ^ 48) k.0 }))
-      | inr (t, s) ↦ elim (chosen (leb (mark_weight V02) n && is_count (n - mark_weight V02)) (Some (pair V02 (n - mark_weight V02))) None (Some m) s) [
-        | inl (u, r) ↦
-            (let k = and_parts (leb (mark_weight V02) n) (is_count (n - mark_weight V02)) u in
-            let large : mark_weight V02 ≤ n = leb-true (mark_weight V02) n k.0 in
-            subst (IsMark header n) (same_Some (pair V02 (n - mark_weight V02)) m r) (record { is = omega (arith, large); allowed = refl; count = leb-true (n - mark_weight V02) (2 ^ 48) k.1 }))
-        | inr (u, r) ↦ absurd (none-some m r)
+    elim (chosen (has_mark header V01 n) (read_as V01 n) (cond (has_mark header V02 n) (read_as V02 n) (cond (has_mark header V03 n) (read_as V03 n) None)) (Some m) e) [
+      | inl (t, s) ↦ subst (IsMark header n) (same_Some (pair V01 (n - mark_weight V01)) m s) (marked_is header V01 n t)
+      | inr (t, s) ↦ elim (chosen (has_mark header V02 n) (read_as V02 n) (cond (has_mark header V03 n) (read_as V03 n) None) (Some m) s) [
+        | inl (u, r) ↦ subst (IsMark header n) (same_Some (pair V02 (n - mark_weight V02)) m r) (marked_is header V02 n u)
+        | inr (u, r) ↦ elim (chosen (has_mark header V03 n) (read_as V03 n) None (Some m) r) [
+          | inl (w, q) ↦ subst (IsMark header n) (same_Some (pair V03 (n - mark_weight V03)) m q) (marked_is header V03 n w)
+          | inr (w, q) ↦ absurd (none-some m q)
+        ]
       ]
     ]
 
+-- a field with the mark of a version
+has_own : (header v : Version) (n count : ℕ) → n ≡ mark_of v count → allows header v ≡ true → count ≤ 2 ^ 48 → has_mark header v n ≡ true
+has_own header v n count e allowed c =
+    let large = and_from (allows header v) (leb (mark_weight v) n) allowed (le-leb (mark_weight v) n (omega (arith, e))) in
+    and_from (allows header v && leb (mark_weight v) n) (is_count (n - mark_weight v)) large (le-leb (n - mark_weight v) (2 ^ 48) (omega (arith, e, c)))
+
+-- a field above all with the mark of a version
+has_none : (header v : Version) (n : ℕ) → mark_weight v + 2 ^ 48 < n → has_mark header v n ≡ false
+has_none header v n above = not_last (allows header v && leb (mark_weight v) n) (is_count (n - mark_weight v)) (lt-leb (n - mark_weight v) (2 ^ 48) (omega (arith, above)))
+  where
+    not_last : (a b : Bool) → b ≡ false → a && b ≡ false
+    not_last true b off = off
+    not_last false b off = refl
+
 unmarked_at : (header v : Version) (n count : ℕ) → n ≡ mark_of v count → allows header v ≡ true → count ≤ 2 ^ 48 → mark_read header n ≡ Some (pair v count)
 unmarked_at header V01 n count e allowed c =
-    let same : n ≡ count = omega (arith, e) in
-    rw (same, le-leb count (2 ^ 48) c, allowed) refl
+    let rest : n - mark_weight V01 ≡ count = omega (arith, e) in
+    rw (has_own header V01 n count e allowed c, rest) refl
 unmarked_at header V02 n count e allowed c =
-    let above : is_count n ≡ false = grind (arith, e) in
-    let large : leb (mark_weight V02) n ≡ true = le-leb (mark_weight V02) n (omega (arith, e)) in
     let rest : n - mark_weight V02 ≡ count = omega (arith, e) in
-    rw (above, large, rest, le-leb count (2 ^ 48) c) refl
+    rw (has_none header V01 n (omega (arith, e)), has_own header V02 n count e allowed c, rest) refl
+unmarked_at header V03 n count e allowed c =
+    let rest : n - mark_weight V03 ≡ count = omega (arith, e) in
+    rw (has_none header V01 n (omega (arith, e)), has_none header V02 n (omega (arith, e)), has_own header V03 n count e allowed c, rest) refl
 
 marked_small : (v : Version) (count : ℕ) → count ≤ 2 ^ 48 → mark_of v count < 2 ^ 64
 marked_small V01 count c = omega (arith, c)
 marked_small V02 count c = omega (arith, c)
+marked_small V03 count c = omega (arith, c)
 
 mark_keeps : (header v : Version) (count : ℕ) → allows header v ≡ true → count ≤ 2 ^ 48 → (mark header).Keeps (pair v count)
 mark_keeps header v count allowed c = (marked_small v count c, unmarked_at header v (mark_of v count) count refl allowed c)

@@ -38,7 +38,7 @@ shown c tail = record {
   half = c.half;
   head = record { epoch = c.epoch; version = c.version; count = c.base.panel.count };
   image = image_text c.base;
-  segment = frames_text c.epoch c.base.panel.count c.frames ++ tail;
+  segment = frames_text c.version c.epoch c.base.panel.count c.frames ++ tail;
 }
 
 -- ---- the bytes, field by field
@@ -191,8 +191,8 @@ opened device l h t image segment beside d limits e a c below =
 
 pub shown_opens : (c : Cut) (plant : Condensed) (tail : List ℕ) → Stores c plant → Reaches c tail → opened_in (device_of c tail) ≡ Ok (shown c tail)
 shown_opens c plant tail s reaches =
-    opened (device_of c tail) c.layout c.half (told_of c.version c.epoch c.base.panel.count) (image_text c.base) (frames_text c.epoch c.base.panel.count c.frames ++ tail) c.other
-    (laid c.layout c.half c.version c.epoch c.base.panel.count (image_text c.base) (frames_text c.epoch c.base.panel.count c.frames) tail c.other c.rest (image_is_long c.layout c.base s.sizes s.image) reaches s.size)
+    opened (device_of c tail) c.layout c.half (told_of c.version c.epoch c.base.panel.count) (image_text c.base) (frames_text c.version c.epoch c.base.panel.count c.frames ++ tail) c.other
+    (laid c.layout c.half c.version c.epoch c.base.panel.count (image_text c.base) (frames_text c.version c.epoch c.base.panel.count c.frames) tail c.other c.rest (image_is_long c.layout c.base s.sizes s.image) reaches s.size)
     s.layout s.epoch s.version s.count s.below
 
 pub stands : (c : Cut) (plant : Condensed) (gate : ℕ) (tail : List ℕ) → Stores c plant → is_gate_open gate ≡ false → Reaches c (gate ∷ tail) → Stands (device_of c (gate ∷ tail)) c.epoch plant

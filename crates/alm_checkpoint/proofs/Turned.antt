@@ -1,5 +1,5 @@
 -- A cut with another half next to the one that stands, and one of which the other half stands.
-use Rattle.std.proofs.Common.{◌≡◌, inr, ℕ, ◌+◌, ◌^◌, ◌<◌, ◌≤◌, List, [], ◌∷◌, ◌++◌, length, refl, sym, ap, subst, ◌∙◌, append_assoc, arith, length-append}
+use Rattle.std.proofs.Common.{◌≡◌, true, inr, ℕ, ◌+◌, ◌^◌, ◌<◌, ◌≤◌, List, [], ◌∷◌, ◌++◌, length, refl, sym, ap, subst, ◌∙◌, append_assoc, arith, length-append}
 use Rattle.std.proofs.lemmas.List.{append-nil}
 use Rattle.std.proofs.lemmas.Nat.{from_be_bytes-to_be_bytes_8}
 use Rattle.alm_types.specs.declared.action.Action.{Action}
@@ -8,16 +8,17 @@ use Rattle.alm_model.specs.Step.{run}
 use Rattle.alm_model.specs.Rules.{KeepsRules, AreAdmitted}
 use Rattle.alm_model.proofs.Kept.{run-keeps}
 use Rattle.alm_codec.specs.declared.version.Version.{Version}
-use Rattle.alm_codec.specs.declared.version.Version.TheVariants.{V02}
+use Rattle.alm_codec.specs.declared.version.Version.TheVariants.{V01, V02, V03}
+use Rattle.alm_codec.specs.Versions.{newer}
 use Rattle.alm_codec.specs.Image.{IsImageText, IsOf, image_text}
-use Rattle.alm_codec.proofs.Frames.{all_borne}
+use Rattle.alm_codec.proofs.Full.{newer_bears}
 use Rattle.alm_segment.specs.Texts.{frames_text, AreFrames, actions_in}
 use Rattle.alm_model.proofs.Runs.{run_sizes, run_within}
 use Rattle.alm_checkpoint.specs.declared.layout.Layout.{Layout}
 use Rattle.alm_checkpoint.specs.declared.half.Half.{Half}
 use Rattle.alm_checkpoint.specs.declared.half.Half.TheVariants.{First, Second}
 use Rattle.alm_checkpoint.specs.Layouts.{other, half_len, image_size}
-use Rattle.alm_checkpoint.specs.Headers.{header_text, half_head_text}
+use Rattle.alm_checkpoint.specs.Headers.{header_text, half_head_text, allows}
 use Rattle.alm_checkpoint.specs.Opening.{epoch_in}
 use Rattle.alm_checkpoint.specs.Cut.{Cut, Stores, IsBelow, Reaches, half_text, before, behind, device_of, with_other, turned_cut, turned_with, side_front, side_back}
 use Rattle.alm_checkpoint.proofs.Shown.{image_is_long}
@@ -68,8 +69,8 @@ turn First s m n t u r = ap (λ (l : List ℕ). l ++ m ++ t ++ ((n ++ u) ++ r)) 
 turn Second s m n t u r = turn_back s m n t u r ∙ ap (λ (l : List ℕ). l ++ n ++ u ++ ((m ++ t) ++ r)) (sym (append-nil s))
 
 -- the other half with an image of this plant in the next epoch is the one that stands
-pub turns : (c : Cut) (plant : Condensed) (tail new_tail : List ℕ) → device_of (with_other c (half_text c.layout V02 (c.epoch + 1) plant [] ++ new_tail)) tail ≡ device_of (turned_cut c plant tail) new_tail
-turns c plant tail new_tail = turn c.half (165 ∷ header_text c.layout) (half_text c.layout c.version c.epoch c.base c.frames) (half_text c.layout V02 (c.epoch + 1) plant []) tail new_tail c.rest
+pub turns : (c : Cut) (plant : Condensed) (tail new_tail : List ℕ) → device_of (with_other c (half_text c.layout (newer c.version) (c.epoch + 1) plant [] ++ new_tail)) tail ≡ device_of (turned_cut c plant tail) new_tail
+turns c plant tail new_tail = turn c.half (165 ∷ header_text c.layout) (half_text c.layout c.version c.epoch c.base c.frames) (half_text c.layout (newer c.version) (c.epoch + 1) plant []) tail new_tail c.rest
 
 half_length : (c : Cut) (tail : List ℕ) → length (image_text c.base) ≡ image_size c.layout → Reaches c tail → length (half_text c.layout c.version c.epoch c.base c.frames ++ tail) ≡ half_len c.layout
 half_length c tail by_image reaches =
@@ -78,23 +79,35 @@ half_length c tail by_image reaches =
       reaches,
       by_image,
       length-append (half_text c.layout c.version c.epoch c.base c.frames) tail,
-      length-append ((165 ∷ half_head_text c.layout c.version c.epoch c.base.panel.count) ++ image_text c.base) (frames_text c.epoch c.base.panel.count c.frames),
+      length-append ((165 ∷ half_head_text c.layout c.version c.epoch c.base.panel.count) ++ image_text c.base) (frames_text c.version c.epoch c.base.panel.count c.frames),
       length-append (165 ∷ half_head_text c.layout c.version c.epoch c.base.panel.count) (image_text c.base),
     )
 
 epoch_there : (l : Layout) (version : Version) (epoch : ℕ) (q : Condensed) (frames : List (List Action)) (tail : List ℕ) → epoch < 2 ^ 64 → epoch_in (half_text l version epoch q frames ++ tail) ≡ epoch
 epoch_there l version epoch q frames tail lt = from_be_bytes-to_be_bytes_8 epoch lt
 
+-- a header that allows a half allows what a checkpoint makes of its version
+newer_allowed : (header half : Version) → allows header half ≡ true → allows header (newer half) ≡ true
+newer_allowed V01 V01 allowed = refl
+newer_allowed V01 V02 allowed = refl
+newer_allowed V01 V03 allowed = absurd cc
+newer_allowed V02 V01 allowed = refl
+newer_allowed V02 V02 allowed = refl
+newer_allowed V02 V03 allowed = absurd cc
+newer_allowed V03 V01 allowed = absurd cc
+newer_allowed V03 V02 allowed = absurd cc
+newer_allowed V03 V03 allowed = refl
+
 pub stores_turned : (c : Cut) (plant : Condensed) (tail : List ℕ) → Stores c plant → Reaches c tail → c.epoch + 1 < 2 ^ 64 → Stores (turned_cut c plant tail) plant
 stores_turned c plant tail s reaches more = record {
   layout = s.layout;
-  version = refl;
+  version = newer_allowed c.layout.version c.version s.version;
   epoch = more;
   image = image_stored c plant s;
   sizes = sizes_stored c plant s;
   count = within_stored c plant s;
   frames = tt;
-  borne = all_borne [];
+  borne = newer_bears c.version [];
   admitted = tt;
   runs = refl;
   size = half_length c tail (image_is_long c.layout c.base s.sizes s.image) reaches;
@@ -118,21 +131,21 @@ beside l Second v e q frames old bytes rest tail = side_second (165 ∷ header_t
 -- ---- a turn with frames that were copied
 
 pub turns_with : (c : Cut) (base : Condensed) (frames : List (List Action)) (tail new_tail : List ℕ)
-    → device_of (with_other c (half_text c.layout V02 (c.epoch + 1) base frames ++ new_tail)) tail ≡ device_of (turned_with c base frames tail) new_tail
-turns_with c base frames tail new_tail = turn c.half (165 ∷ header_text c.layout) (half_text c.layout c.version c.epoch c.base c.frames) (half_text c.layout V02 (c.epoch + 1) base frames) tail new_tail c.rest
+    → device_of (with_other c (half_text c.layout (newer c.version) (c.epoch + 1) base frames ++ new_tail)) tail ≡ device_of (turned_with c base frames tail) new_tail
+turns_with c base frames tail new_tail = turn c.half (165 ∷ header_text c.layout) (half_text c.layout c.version c.epoch c.base c.frames) (half_text c.layout (newer c.version) (c.epoch + 1) base frames) tail new_tail c.rest
 
 pub stores_turned_with : (c : Cut) (plant base : Condensed) (frames : List (List Action)) (tail : List ℕ) → Stores c plant → Reaches c tail → c.epoch + 1 < 2 ^ 64 → IsImageText base (image_text base)
     → IsOf c.layout.rows c.layout.areas base.panel.count base → base.panel.count ≤ 2 ^ 48 → AreFrames (c.epoch + 1) base.panel.count frames → AreAdmitted base (actions_in frames) → run base (actions_in frames) ≡ plant
     → Stores (turned_with c base frames tail) plant
 stores_turned_with c plant base frames tail s reaches more image sizes count spelled admitted runs = record {
   layout = s.layout;
-  version = refl;
+  version = newer_allowed c.layout.version c.version s.version;
   epoch = more;
   image = image;
   sizes = sizes;
   count = count;
   frames = spelled;
-  borne = all_borne (actions_in frames);
+  borne = newer_bears c.version (actions_in frames);
   admitted = admitted;
   runs = runs;
   size = half_length c tail (image_is_long c.layout c.base s.sizes s.image) reaches;

@@ -6,8 +6,7 @@ use Rattle.alm_model.specs.Step.{run}
 use Rattle.alm_model.specs.Rules.{AreAdmitted}
 use Rattle.alm_codec.specs.Image.{IsImageText, IsOf, image_text}
 use Rattle.alm_codec.specs.declared.version.Version.{Version}
-use Rattle.alm_codec.specs.declared.version.Version.TheVariants.{V02}
-use Rattle.alm_codec.specs.Versions.{AreBorne}
+use Rattle.alm_codec.specs.Versions.{AreBorne, newer}
 use Rattle.alm_segment.specs.Course.{is_gate_open}
 use Rattle.alm_segment.specs.Texts.{frames_text, AreFrames, actions_in}
 use Rattle.alm_checkpoint.specs.declared.layout.Layout.{Layout}
@@ -40,7 +39,7 @@ pub record Cut : Type 0 where
 -- a half from its gate on, up to a place in its segment
 abbrev pub half_text : Layout → Version → (epoch : ℕ) → Condensed → List (List Action) → List ℕ
 half_text l version epoch base frames =
-    165 ∷ half_head_text l version epoch base.panel.count ++ image_text base ++ frames_text epoch base.panel.count frames
+    165 ∷ half_head_text l version epoch base.panel.count ++ image_text base ++ frames_text version epoch base.panel.count frames
 
 -- what is before the half that stands, and after it
 abbrev pub before : Half → List ℕ → List ℕ
@@ -63,7 +62,7 @@ device_of c tail = front c ++ tail ++ back c
 
 -- the bytes of the segment that are left after the frames
 abbrev pub Reaches : Cut → List ℕ → Type 0
-Reaches c tail = length (frames_text c.epoch c.base.panel.count c.frames) + length tail ≡ c.layout.segment
+Reaches c tail = length (frames_text c.version c.epoch c.base.panel.count c.frames) + length tail ≡ c.layout.segment
 
 -- the other half does not stand next to one of this epoch
 abbrev pub IsBelow : ℕ → List ℕ → Type 0
@@ -94,13 +93,13 @@ with_frame c actions = record c { frames = c.frames ++ actions ∷ [] }
 abbrev pub with_other : Cut → List ℕ → Cut
 with_other c bytes = record c { other = bytes }
 
--- the other half stands, in version 02 and the next epoch: with the image of this plant and no frames; these bytes end
--- the half that stood before
+-- the other half stands, in the next epoch and the version that a checkpoint writes. It has the image of this plant and no
+-- frames; these bytes end the half that stood before
 abbrev pub turned_cut : Cut → Condensed → List ℕ → Cut
 turned_cut c plant tail = record {
   layout = c.layout;
   half = other c.half;
-  version = V02;
+  version = newer c.version;
   epoch = c.epoch + 1;
   base = plant;
   frames = [];

@@ -2,25 +2,30 @@
 use Rattle.std.specs.Prelude.{◌≡◌, ℕ, ◌+◌, ◌-◌, ◌*◌, ◌^◌, ◌<◌, ◌≤◌, ◌&&◌, Bool, true, false, List, [], ◌∷◌, ◌++◌, Option, Some, None, bytes_eq, nat_le, ◌==◌, if◌then◌else◌}
 use Rattle.std.specs.Int.{w16, w32, w64, to_be_bytes}
 use Rattle.alm_codec.specs.declared.version.Version.{Version}
-use Rattle.alm_codec.specs.declared.version.Version.TheVariants.{V01, V02}
+use Rattle.alm_codec.specs.declared.version.Version.TheVariants.{V01, V02, V03}
 use Rattle.alm_codec.specs.Format.{Format, number_field, raw, coded_field, tested_field, both}
 use Rattle.alm_checkpoint.specs.declared.layout.Layout.{Layout}
 use Rattle.alm_checkpoint.specs.declared.half_head.HalfHead.{HalfHead}
 use Rattle.alm_checkpoint.specs.Layouts.{image_size, device_len, is_rows, is_areas, is_segment}
 use Rattle.alm_types.specs.Sizes.{most_actions}
 
--- the last digit of a name: 1 or 2
+-- the last digit of a name: 1, 2 or 3
 abbrev pub version_digit : Version → ℕ
 version_digit V01 = 49
 version_digit V02 = 50
+version_digit V03 = 51
 
--- ALMSRV01 and ALMSRV02
+-- ALMSRV01, ALMSRV02 and ALMSRV03
 abbrev pub device_name : Version → List ℕ
 device_name version = 65 ∷ 76 ∷ 77 ∷ 83 ∷ 82 ∷ 86 ∷ 48 ∷ version_digit version ∷ []
 
 -- the version with a name
 abbrev pub version_named : List ℕ → Option Version
-version_named text = if bytes_eq text (device_name V01) then Some V01 else if bytes_eq text (device_name V02) then Some V02 else None
+version_named text =
+    if bytes_eq text (device_name V01) then Some V01
+    else if bytes_eq text (device_name V02) then Some V02
+    else if bytes_eq text (device_name V03) then Some V03
+    else None
 
 abbrev pub name : Format Version
 name = coded_field (raw 8) version_named device_name
@@ -44,31 +49,36 @@ header size =
     (λ p. Some (of_rows p.1.0 p.1.1.0 p.1.1.1 p.0))
     (λ l. (l.version, (l.rows, (l.areas, l.segment))))
 
--- what the mark of a version adds to the count with which it is one field: 0 or 2 in the field's first byte
+-- what the mark of a version adds to the count with which it is one field: 0, 2 or 253 in the field's first byte
 abbrev pub mark_weight : Version → ℕ
 mark_weight V01 = 0
 mark_weight V02 = 2 * 2 ^ 56
+mark_weight V03 = 253 * 2 ^ 56
 
 abbrev pub mark_of : Version → (count : ℕ) → ℕ
 mark_of version count = mark_weight version + count
 
--- whether a half of a version may be under a header: under version 02 none of version 01
-abbrev pub is_first : Version → Bool
-is_first V01 = true
-is_first V02 = false
-
+-- whether a half of a version may be under a header: under version 01 also one of version 02, else only one of the header's
 abbrev pub allows : (header half : Version) → Bool
-allows header V01 = is_first header
-allows header V02 = true
+allows V01 V01 = true
+allows V01 V02 = true
+allows V02 V02 = true
+allows V03 V03 = true
+allows _ _ = false
 
 abbrev pub is_count : ℕ → Bool
 is_count n = nat_le n most_actions
 
+-- the field has the mark of a version that may be under the header, and a count
+abbrev pub has_mark : (header half : Version) → ℕ → Bool
+has_mark header half n = allows header half && nat_le (mark_weight half) n && is_count (n - mark_weight half)
+
 -- the version and the count that the field encodes
 abbrev pub mark_read : (header : Version) → ℕ → Option (Version × ℕ)
 mark_read header n =
-    if is_count n && is_first header then Some (V01, n)
-    else if nat_le (mark_weight V02) n && is_count (n - mark_weight V02) then Some (V02, n - mark_weight V02)
+    if has_mark header V01 n then Some (V01, n - mark_weight V01)
+    else if has_mark header V02 n then Some (V02, n - mark_weight V02)
+    else if has_mark header V03 n then Some (V03, n - mark_weight V03)
     else None
 
 abbrev pub mark : (header : Version) → Format (Version × ℕ)

@@ -4,7 +4,7 @@ ghost use Rattle.std.specs.Prelude.{◌≡◌, ◌≤◌, ◌^◌, ◌==◌, len
 ghost use Rattle.std.specs.Int.{w64};
 ghost use Rattle.alm_codec.specs.Reading.{Gives};
 ghost use Rattle.alm_codec.specs.Format.{tested_field, number_field};
-ghost use Rattle.alm_checkpoint.specs.Headers.{half_head, mark, mark_weight, allows};
+ghost use Rattle.alm_checkpoint.specs.Headers.{half_head, mark, mark_weight, allows, has_mark};
 ghost use Rattle.alm_checkpoint.specs.Opening.{half_head_from};
 ghost use Rattle.alm_types.specs.Sizes.{most_actions};
 
@@ -20,7 +20,7 @@ use alm_types::MOST_ACTIONS;
 pub struct HalfHead {
     /// A checkpoint writes the epoch of the half that stood before plus 1.
     pub epoch: u64,
-    /// Given by its mark; a checkpoint writes version 02.
+    /// Given by its mark; a checkpoint writes version 02, or 03 if the half that stands has it.
     pub version: Version,
     /// How many actions made the plant of its image, at most 2^48.
     pub count: u64,
@@ -29,6 +29,9 @@ pub struct HalfHead {
 /// What the mark of version 02 adds to the count: 2 in the first of the eight bytes that they share.
 const SECOND_MARK: u64 = 2 << 56;
 
+/// What that of version 03 adds: 253 there.
+const THIRD_MARK: u64 = 253 << 56;
+
 /// What the mark of a version adds to the count of actions with which it is one field.
 pub(crate) fn mark_weight(version: Version) -> u64
     ensures { result ≡ mark_weight version }
@@ -36,7 +39,27 @@ pub(crate) fn mark_weight(version: Version) -> u64
     match version {
         Version::V01 => 0,
         Version::V02 => SECOND_MARK,
+        Version::V03 => THIRD_MARK,
     }
+}
+
+/// Whether a half of a version may be under a header of a version.
+fn allows(header: Version, half: Version) -> bool
+    ensures { result ≡ allows header half }
+{
+    match header {
+        Version::V01 => matches!(half, Version::V01 | Version::V02),
+        Version::V02 => matches!(half, Version::V02),
+        Version::V03 => matches!(half, Version::V03),
+    }
+}
+
+/// Whether a field has the mark of a version that may be under a header, and a count of actions.
+fn has_mark(field: u64, header: Version, half: Version) -> bool
+    ensures { result ≡ has_mark header half field }
+{
+    let mark = mark_weight(half);
+    allows(header, half) && field >= mark && field - mark <= MOST_ACTIONS
 }
 
 /// The version of a half under a header of a version, and its count of actions.
@@ -46,11 +69,14 @@ fn mark_of(bytes: &[u8], header: Version) -> Result<((Version, u64), &[u8]), Byt
     ensures mark { Gives (λ x. (x.0, x.1.now)) result ((mark header).read bytes.now) }
 {
     let (field, rest) = u64_at(bytes)?;
-    if field <= MOST_ACTIONS && matches!(header, Version::V01) {
+    if has_mark(field, header, Version::V01) {
         return Ok(((Version::V01, field), rest));
     }
-    if field >= SECOND_MARK && field - SECOND_MARK <= MOST_ACTIONS {
+    if has_mark(field, header, Version::V02) {
         return Ok(((Version::V02, field - SECOND_MARK), rest));
+    }
+    if has_mark(field, header, Version::V03) {
+        return Ok(((Version::V03, field - THIRD_MARK), rest));
     }
     Err(BytesLeft(bytes.len()))
 }
@@ -90,7 +116,8 @@ fn fields_of(bytes: &[u8], header: Version, image: usize) -> Result<(HalfHead, &
 impl Layout {
     /// What the head of a half says, by its 25 bytes. Damage is at mark and count, which are one field, or else at an
     /// image length that isn't this layout's. Mark and count are damaged if the count is above 2^48, or the mark isn't
-    /// one, or is that of version 01 under a header of version 02. Any epoch is valid.
+    /// that of a version that may be under the header. Under one of version 01 a half may be of version 02 too, else only
+    /// of the header's version. Any epoch is valid.
     #[tactic(auto, unfolding(crate::specs::Opening::half_head_from))]
     pub fn read_half_head(&self, half: Half, bytes: &[u8]) -> Result<HalfHead, DeviceFault>
         requires { length bytes.now ≡ 25 }

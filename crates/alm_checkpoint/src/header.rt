@@ -28,6 +28,8 @@ fn name_of(bytes: &[u8]) -> Result<(Version, &[u8]), BytesLeft>
         Ok((Version::V01, rest))
     } else if text == device_name(Version::V02).as_slice() {
         Ok((Version::V02, rest))
+    } else if text == device_name(Version::V03).as_slice() {
+        Ok((Version::V03, rest))
     } else {
         Err(BytesLeft(bytes.len()))
     }

@@ -7,8 +7,7 @@ ghost use Rattle.alm_model.specs.Step.{run};
 ghost use Rattle.alm_model.specs.Rules.{AreAdmitted};
 ghost use Rattle.alm_codec.specs.Frames.{IsFrame, frame_text};
 ghost use Rattle.alm_codec.specs.Reading.{IsBytes};
-ghost use Rattle.alm_codec.specs.declared.version.Version.TheVariants.{V02};
-ghost use Rattle.alm_codec.specs.Versions.{AreBorne};
+ghost use Rattle.alm_codec.specs.Versions.{AreBorne, newer};
 ghost use Rattle.alm_segment.specs.Course.{is_gate_open};
 ghost use Rattle.alm_checkpoint.specs.declared.device_fault.DeviceFault.{DeviceFault};
 ghost use Rattle.alm_checkpoint.specs.declared.half_head.HalfHead.{HalfHead};
@@ -59,7 +58,7 @@ pub fn a_frame_more()
         Stores c plant → IsFrame c.epoch (plant.panel.count + 1) actions →
         AreBorne c.version actions → AreAdmitted plant actions →
         Stores (with_frame c actions) (run plant actions) ×
-        (device_of c (165 ∷ frame_text c.epoch (plant.panel.count + 1) actions ++ tail) ≡
+        (device_of c (165 ∷ frame_text c.version c.epoch (plant.panel.count + 1) actions ++ tail) ≡
         device_of (with_frame c actions) tail) }
 {}
 
@@ -70,13 +69,13 @@ pub fn another_half()
         Stores (with_other c bytes) plant }
 {}
 
-/// If the other half has an open gate, version 02, the next epoch and an image of the stored plant, that half stands, and the
-/// same plant is stored.
+/// Let the other half have an open gate, the version that a checkpoint writes, the next epoch and an image of the stored plant.
+/// Then that half stands, and the same plant is stored.
 pub fn a_turn()
     ensures { (c : Cut) (plant : Condensed) (tail new_tail : List ℕ) → Stores c plant →
         Reaches c tail → c.epoch + 1 < 2 ^ 64 →
         Stores (turned_cut c plant tail) plant ×
-        (device_of (with_other c (half_text c.layout V02 (c.epoch + 1) plant [] ++ new_tail)) tail ≡
+        (device_of (with_other c (half_text c.layout (newer c.version) (c.epoch + 1) plant [] ++ new_tail)) tail ≡
         device_of (turned_cut c plant tail) new_tail) }
 {}
 

@@ -26,6 +26,7 @@ pub fn device_name(version: Version) -> [u8; 8]
     match version {
         Version::V01 => *b"ALMSRV01",
         Version::V02 => *b"ALMSRV02",
+        Version::V03 => *b"ALMSRV03",
     }
 }
 
@@ -38,7 +39,7 @@ pub struct Layout {
     pub areas: u8,
     /// How many bytes a segment has, 4,116 to 16,777,216.
     pub segment: u32,
-    /// The version of the header. A half has its own, which is version 02 if this one is.
+    /// The version of the header. A half has its own, which is 01 or 02 if this one is 01, and else the same.
     pub version: Version,
 }
 

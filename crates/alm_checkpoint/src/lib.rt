@@ -9,7 +9,7 @@
 //! | offset | bytes | field of the header |
 //! |---|---|---|
 //! | 0 | 1 | gate |
-//! | 1 | 8 | `ALMSRV01` or `ALMSRV02`, by the version |
+//! | 1 | 8 | `ALMSRV01`, `ALMSRV02` or `ALMSRV03`, by the version |
 //! | 9 | 4 | rows, 1 to 16,384 |
 //! | 13 | 2 | areas, 1 to 64 |
 //! | 15 | 8 | length of a segment, L: 4,116 to 16,777,216 |
@@ -18,13 +18,13 @@
 //! |---|---|---|
 //! | 0 | 1 | gate |
 //! | 1 | 8 | epoch |
-//! | 9 | 8 | mark and count: the mark of the half's version in the first byte, 0 or 2, then how many actions made the plant of the image, at most 2^48 |
+//! | 9 | 8 | mark and count: the mark of the half's version in the first byte, 0, 2 or 253, then how many actions made the plant of the image, at most 2^48 |
 //! | 17 | 8 | length of the image, I |
 //! | 25 | I | image |
 //! | 25 + I | L | segment |
 //!
-//! A half of version 01 holds only actions of kinds 1 to 8. Under a header of version 01 a half may be of either version, under
-//! one of version 02 it is of version 02.
+//! A half of version 01 holds only actions of kinds 1 to 8. Under a header of version 01 a half is of version 01 or 02, under one
+//! of version 02 or 03 it is of the header's version.
 //!
 //! The first half begins at 23, the second after it. The half that stands is the one with an open gate; if both gates are open,
 //! the one with the greater epoch. Its image is that of a plant, and the frames of its segment up to the first closed gate make

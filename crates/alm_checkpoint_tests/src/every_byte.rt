@@ -35,6 +35,7 @@ fn first_dispute(alloc: Global, places: Range<usize>) -> Result<Option<usize>, F
 fn header_and_head(rt: HostRuntime) -> Result<(), Fail> {
     assert_eq!(rt; first_dispute(rt.alloc(), 0..64)?, None);
     assert_eq!(rt; dispute_in(rt.alloc(), Version::V02, 0..64)?, None);
+    assert_eq!(rt; dispute_in(rt.alloc(), Version::V03, 0..64)?, None);
     Ok(())
 }
 

@@ -16,8 +16,8 @@ pub struct Sizes {
     pub rows: u16,
     pub areas: u16,
     pub segment: u32,
-    /// Whether the header is of version 02.
-    pub second: bool,
+    /// The marks that a half may have, the same twice if there is one alone.
+    pub marks: (u8, u8),
 }
 
 impl Sizes {
@@ -37,14 +37,26 @@ fn damaged(half: u8, at: usize) -> DeviceFault {
     }
 }
 
+/// The marks that a half may have under a name.
+fn marks_of(name: &[u8]) -> Option<(u8, u8)> {
+    if name == b"ALMSRV01".as_slice() {
+        Some((0, 2))
+    } else if name == b"ALMSRV02".as_slice() {
+        Some((2, 2))
+    } else if name == b"ALMSRV03".as_slice() {
+        Some((0xFD, 0xFD))
+    } else {
+        None
+    }
+}
+
 fn sizes_of(device: &[u8]) -> Result<Sizes, DeviceFault> {
     if device.len() < 23 || byte(device, 0) != 0xA5 {
         return Err(DeviceFault::Unformatted);
     }
-    let second = part(device, 1, 8) == b"ALMSRV02".as_slice();
-    if !second && part(device, 1, 8) != b"ALMSRV01".as_slice() {
+    let Some(marks) = marks_of(part(device, 1, 8)) else {
         return Err(damaged(2, 1));
-    }
+    };
     let rows = number(device, 9, 4);
     if rows < 1 || rows > 16_384 {
         return Err(damaged(2, 9));
@@ -61,7 +73,7 @@ fn sizes_of(device: &[u8]) -> Result<Sizes, DeviceFault> {
         rows: rows as u16,
         areas: areas as u16,
         segment: segment as u32,
-        second,
+        marks,
     };
     if sizes.half() > (device.len() - 23) / 2 {
         return Err(damaged(2, 15));
@@ -94,7 +106,7 @@ fn standing(device: &[u8], sizes: Sizes) -> Result<(Half, usize), DeviceFault> {
 fn counted(bytes: &[u8], sizes: Sizes) -> Result<(u64, usize), usize> {
     let count = number(bytes, 10, 7);
     let mark = byte(bytes, 9);
-    if count > 1 << 48 || (mark != 2 && (mark != 0 || sizes.second)) {
+    if count > 1 << 48 || (mark != sizes.marks.0 && mark != sizes.marks.1) {
         return Err(9);
     }
     if number(bytes, 17, 8) != sizes.image() as u64 {

@@ -91,10 +91,10 @@ pub fn value(alarm: u32, value: i64) -> Result<Action, Fail> {
     Ok(Action::Value(AlarmId(alarm), Reading::new(value).ok_or("reading")?))
 }
 
-/// Puts a frame of one action after the others, and opens its gate.
-fn commit(device: &mut Vec<u8>, epoch: u64, first: u64, action: Action) -> Result<(), Fail> {
+/// Puts a frame of one action of epoch 1 after the others, and opens its gate.
+fn commit(device: &mut Vec<u8>, version: Version, first: u64, action: Action) -> Result<(), Fail> {
     let mut body = [0; 35];
-    write_frame_body(epoch, first, &[action], &mut body);
+    write_frame_body(version, 1, first, &[action], &mut body);
     device.push(OPEN_GATE)?;
     device.extend_from_slice(&body[..34])?;
     Ok(())
@@ -127,12 +127,17 @@ fn put_front(alloc: Global, device: &mut Vec<u8>, version: Version) -> Result<()
 }
 
 /// The commits, and zeros after them.
-fn put_commits(device: &mut Vec<u8>, commits: u32, reading: i64) -> Result<(), Fail> {
+fn put_commits(
+    device: &mut Vec<u8>,
+    version: Version,
+    commits: u32,
+    reading: i64,
+) -> Result<(), Fail> {
     if commits > 0 {
-        commit(device, 1, 1, clock(1000)?)?;
+        commit(device, version, 1, clock(1000)?)?;
     }
     if commits > 1 {
-        commit(device, 1, 2, value(0, reading)?)?;
+        commit(device, version, 2, value(0, reading)?)?;
     }
     for _ in device.len()..SIZE {
         device.push(0)?;
@@ -149,7 +154,7 @@ pub fn device_of(
 ) -> Result<Vec<u8>, Fail> {
     let mut device = Vec::with_capacity(alloc, SIZE)?;
     put_front(alloc, &mut device, version)?;
-    put_commits(&mut device, commits, reading)?;
+    put_commits(&mut device, version, commits, reading)?;
     Ok(device)
 }
 

@@ -2,8 +2,13 @@ pub mod Actions
 pub mod Alarms
 pub mod Areas
 pub mod Bytes
+pub mod ChangedByte
 pub mod Formats
+pub mod FrameBytes
+pub mod FrameHeads
+pub mod FrameWriting
 pub mod Frames
+pub mod Full
 pub mod ImageLaws
 pub mod KeptAlarm
 pub mod Loops

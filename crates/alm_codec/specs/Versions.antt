@@ -1,9 +1,11 @@
--- Which actions there are in a version.
-use Rattle.std.specs.Prelude.{◌≡◌, List, Bool, true, false, All, Option, Some, None, if◌then◌else◌}
+-- What there is in a version.
+use Rattle.std.specs.Prelude.{◌≡◌, ℕ, List, [], Bool, true, false, All, Option, Some, None, if◌then◌else◌}
+use Rattle.std.specs.Int.{w32, to_be_bytes}
 use Rattle.alm_types.specs.declared.action.Action.{Action}
 use Rattle.alm_types.specs.declared.action.Action.TheVariants.{SetPriority, SetSetpoint}
+use Rattle.alm_sum.specs.Crc.{checksum_of}
 use Rattle.alm_codec.specs.declared.version.Version.{Version}
-use Rattle.alm_codec.specs.declared.version.Version.TheVariants.{V01, V02}
+use Rattle.alm_codec.specs.declared.version.Version.TheVariants.{V01, V02, V03}
 
 -- an action that each version has
 abbrev pub is_early : Action → Bool
@@ -11,10 +13,23 @@ is_early (SetPriority i priority) = false
 is_early (SetSetpoint i setpoint) = false
 is_early _ = true
 
--- version 02 has all of them
+-- versions 02 and 03 have all of them
 abbrev pub bears : Version → Action → Bool
 bears V01 a = is_early a
 bears V02 a = true
+bears V03 a = true
+
+-- a version with all actions
+abbrev pub is_full : Version → Bool
+is_full V01 = false
+is_full V02 = true
+is_full V03 = true
+
+-- the version of the half that a checkpoint writes, by that of the half that stands: version 01 becomes 02
+abbrev pub newer : Version → Version
+newer V01 = V02
+newer V02 = V02
+newer V03 = V03
 
 abbrev pub IsBorne : Version → Action → Type 0
 IsBorne version a = bears version a ≡ true
@@ -26,3 +41,14 @@ AreBorne version actions = All (IsBorne version) actions
 abbrev pub borne : Version → Option Action → Option Action
 borne version None = None
 borne version (Some a) = if bears version a then Some a else None
+
+-- version 03 has checksums, of four bytes each
+abbrev pub sum_text : Version → List ℕ → List ℕ
+sum_text V01 text = []
+sum_text V02 text = []
+sum_text V03 text = to_be_bytes w32 (checksum_of text)
+
+abbrev pub sum_len : Version → ℕ
+sum_len V01 = 0
+sum_len V02 = 0
+sum_len V03 = 4

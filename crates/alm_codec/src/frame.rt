@@ -3,44 +3,16 @@
 ghost use Rattle.std.specs.Prelude.{◌≡◌, ◌+◌, ◌*◌, ◌<◌, ◌≤◌, ◌++◌, ◌∷◌, [], ℕ, List, length, drop, IfOk, OnErr, Ok, vec_len, vec_capacity};
 ghost use Rattle.alm_types.specs.declared.action.Action.{Action as AnAction};
 ghost use Rattle.alm_codec.specs.Reading.{Gives, FindsOrDamage};
-ghost use Rattle.alm_codec.specs.Frames.{IsFrame, frame_text, frame_body, head_at, with_front, actions_at, frame_at, IsBefore};
+ghost use Rattle.alm_codec.specs.Frames.{IsFrame, frame_text, with_front, actions_at, frame_at, IsBefore};
 ghost use Rattle.alm_codec.specs.Versions.{AreBorne};
 ghost use Rattle.alm_types.specs.Sizes.{most_entries};
 
-use crate::action::{ACTION_LEN, action_of, put_action};
+use crate::action::{ACTION_LEN, action_of};
 use crate::bytes_left::BytesLeft;
 use crate::damage::Damage;
-use crate::fields::{put, u16_at, u64_at};
+use crate::frame_head::read_head;
 use crate::version::Version;
-use alm_types::{Action, MOST_ENTRIES};
-
-/// How many bytes of a frame there are between its gate and its first action.
-const HEAD_LEN: usize = 18;
-
-/// How many actions the frame has, and the bytes from its first action on.
-#[tactic(auto, unfolding(crate::specs::Frames::head_at))]
-fn head_of(bytes: &[u8], epoch: u64, count: u64) -> Result<(u16, &[u8]), BytesLeft>
-    ensures head { Gives (λ x. (x.0, x.1.now)) result (head_at epoch count bytes.now) }
-    ensures few { IfOk result (λ x. x.0 ≤ most_entries) }
-    ensures inside { IfOk result (λ x. 16 * x.0 < length x.1.now) }
-    ensures left { IfOk result (λ x. length x.1.now ≤ length bytes.now) }
-{
-    let (found_epoch, rest) = u64_at(bytes)?;
-    if found_epoch != epoch {
-        return Err(BytesLeft(bytes.len()));
-    }
-    let left = rest.len();
-    let (first, rest) = u64_at(rest)?;
-    if first == 0 || first - 1 != count {
-        return Err(BytesLeft(left));
-    }
-    let left = rest.len();
-    let (actions, rest) = u16_at(rest)?;
-    if actions < 1 || actions as usize > MOST_ENTRIES || rest.len() <= 16 * actions as usize {
-        return Err(BytesLeft(left));
-    }
-    Ok((actions, rest))
-}
+use alm_types::Action;
 
 /// Reads `count` actions after the others, and returns the bytes after them.
 fn actions_of<'a>(
@@ -84,7 +56,7 @@ fn frame_of<'a>(
     ensures room { vec_capacity actions.new ≡ vec_capacity actions.old }
 {
     actions.clear();
-    let (number, rest) = head_of(bytes, epoch, count)?;
+    let (_, number, rest) = read_head(bytes, epoch, count, 0, version)?;
     actions_of(number, rest, actions, version)
 }
 
@@ -101,11 +73,11 @@ pub fn read_frame(
     // These bytes are the text of what is read, and the next gate is after it.
     ensures found { IfOk result
         (λ end. IsFrame epoch (count + 1) actions.new.items × AreBorne version actions.new.items ×
-        IsBefore (frame_text epoch (count + 1) actions.new.items) end bytes.now) }
+        IsBefore (frame_text version epoch (count + 1) actions.new.items) end bytes.now) }
     // What is encoded so is read.
     ensures only { (list : List AnAction) (gate : ℕ) (rest : List ℕ) →
         IsFrame epoch (count + 1) list → AreBorne version list →
-        bytes.now ≡ frame_text epoch (count + 1) list ++ gate ∷ rest →
+        bytes.now ≡ frame_text version epoch (count + 1) list ++ gate ∷ rest →
         (result ≡ Ok (18 + 16 * length list)) × (actions.new.items ≡ list) }
     // Which field is damaged.
     ensures exact { FindsOrDamage bytes.now (λ end. (actions.new.items, drop end bytes.now)) result
@@ -121,22 +93,4 @@ pub fn read_frame(
             Err(left.of(bytes))
         }
     }
-}
-
-/// Writes a frame's body, without its gate: the next gate is closed.
-pub fn write_frame_body(epoch: u64, first: u64, actions: &[Action], out: &mut [u8])
-    requires some { 1 ≤ length actions.now }
-    requires few { length actions.now ≤ most_entries }
-    requires room { 19 + 16 * length actions.now ≤ length out.old }
-    ensures text { out.new ≡
-        frame_body epoch first actions.now ++ drop (19 + 16 * length actions.now) out.old }
-    ensures limits { IsFrame epoch first actions.now }
-{
-    let first_at = put(out, 0, &epoch.to_be_bytes());
-    let count_at = put(out, first_at, &first.to_be_bytes());
-    let mut at = put(out, count_at, &(actions.len() as u16).to_be_bytes());
-    for action in actions {
-        at = put_action(out, at, action);
-    }
-    put(out, at, &[0]);
 }

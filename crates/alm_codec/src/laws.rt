@@ -1,14 +1,15 @@
 //! Laws of the texts: each function does nothing, and its contract is the law.
 
-ghost use Rattle.std.specs.Prelude.{◌≡◌, ◌≤◌, ◌+◌, ◌*◌, ◌++◌, ◌∷◌, ℕ, List, None, Ok, length};
+ghost use Rattle.std.specs.Prelude.{◌≡◌, ◌≢◌, ◌≤◌, ◌+◌, ◌*◌, ◌++◌, ◌∷◌, ℕ, List, None, Ok, Err, length};
 ghost use Rattle.alm_types.specs.declared.action.Action.{Action};
 ghost use Rattle.alm_model.specs.Plant.{Condensed};
 ghost use Rattle.alm_model.specs.Rules.{KeepsRules};
 ghost use Rattle.alm_types.specs.Actions.{IsAction};
 ghost use Rattle.alm_codec.specs.Actions.{action_text};
-ghost use Rattle.alm_codec.specs.Frames.{IsFrame, frame_text, frame_at};
+ghost use Rattle.alm_codec.specs.Frames.{IsFrame, frame_at, frame_text, shown};
 ghost use Rattle.alm_codec.specs.Reading.{IsBytes};
 ghost use Rattle.alm_codec.specs.declared.version.Version.{Version};
+ghost use Rattle.alm_codec.specs.declared.version.Version.TheVariants.{V03};
 ghost use Rattle.alm_codec.specs.Versions.{AreBorne};
 ghost use Rattle.alm_codec.specs.ImageFields.{damage_in};
 ghost use Rattle.alm_codec.specs.Image.{IsImageText, IsOf, image_text, image_len};
@@ -29,17 +30,17 @@ pub fn undamaged_is_a_frame()
     ensures some { (version : Version) (epoch count : ℕ) (bytes : List ℕ) (list : List Action)
         (rest : List ℕ) → IsBytes bytes → frame_at version epoch count bytes ≡ Ok (list, rest) →
         IsFrame epoch (count + 1) list × AreBorne version list ×
-        (bytes ≡ frame_text epoch (count + 1) list ++ rest) × (1 ≤ length rest) }
+        (bytes ≡ frame_text version epoch (count + 1) list ++ rest) × (1 ≤ length rest) }
     ensures none { (version : Version) (epoch count : ℕ) (list : List Action) (gate : ℕ)
         (rest : List ℕ) → IsFrame epoch (count + 1) list → AreBorne version list →
-        frame_at version epoch count (frame_text epoch (count + 1) list ++ gate ∷ rest) ≡
+        frame_at version epoch count (frame_text version epoch (count + 1) list ++ gate ∷ rest) ≡
         Ok (list, gate ∷ rest) }
 {}
 
 /// How long the text of a frame is.
 pub fn frame_has_its_length()
-    ensures { (epoch first : ℕ) (list : List Action) →
-        length (frame_text epoch first list) ≡ 18 + 16 * length list }
+    ensures { (version : Version) (epoch first : ℕ) (list : List Action) →
+        length (frame_text version epoch first list) ≡ 18 + 16 * length list }
 {}
 
 /// No text of an action is a prefix of another's.
@@ -48,10 +49,21 @@ pub fn no_action_begins_another()
         action_text a ++ x ≡ action_text b ++ y → a ≡ b }
 {}
 
-/// No text of a frame is a prefix of another's.
+/// No text of a frame is a prefix of another's of the same version.
 pub fn no_frame_begins_another()
-    ensures { (e f d g : ℕ) (a b : List Action) (x y : List ℕ) → IsFrame e f a → IsFrame d g b →
-        frame_text e f a ++ x ≡ frame_text d g b ++ y → (e ≡ d) × (f ≡ g) × (a ≡ b) }
+    ensures { (v : Version) (e f d g : ℕ) (a b : List Action) (x y : List ℕ) →
+        IsFrame e f a → IsFrame d g b →
+        frame_text v e f a ++ x ≡ frame_text v d g b ++ y →
+        (e ≡ d) × (shown v f ≡ shown v g) × (a ≡ b) }
+{}
+
+/// A frame of version 03 of which one byte was changed is damaged.
+pub fn a_changed_byte_is_damage()
+    ensures { (epoch count byte changed gate : ℕ) (list : List Action)
+        (front back rest : List ℕ) → IsFrame epoch (count + 1) list →
+        frame_text V03 epoch (count + 1) list ≡ front ++ byte ∷ back → changed ≢ byte →
+        IsBytes ((front ++ changed ∷ back) ++ gate ∷ rest) →
+        (left : ℕ) × (frame_at V03 epoch count ((front ++ changed ∷ back) ++ gate ∷ rest) ≡ Err left) }
 {}
 
 /// How long the image of a plant is.

@@ -20,7 +20,7 @@ fn frames_are_written_and_read(rt: HostRuntime) -> Result<(), Fail> {
     let mut actions = Vec::with_capacity(rt.alloc(), MOST_ENTRIES)?;
     let mut out = [9; 36];
     let clock = Action::Clock(Moment::new(1000).ok_or("moment")?);
-    write_frame_body(1, 1, &[clock], &mut out);
+    write_frame_body(Version::V02, 1, 1, &[clock], &mut out);
     assert!(rt; out[..35] == CLOCK_FRAME[..] && out[35] == 9);
     assert_eq!(rt;
         read_frame(&CLOCK_FRAME, 1, 0, &mut actions, Version::V02),
@@ -28,7 +28,7 @@ fn frames_are_written_and_read(rt: HostRuntime) -> Result<(), Fail> {
     );
     assert_eq!(rt; actions.as_slice(), [clock].as_slice());
     let value = Action::Value(AlarmId(0), Reading::new(800).ok_or("reading")?);
-    write_frame_body(1, 2, &[value], &mut out);
+    write_frame_body(Version::V02, 1, 2, &[value], &mut out);
     assert!(rt; out[..35] == VALUE_FRAME[..]);
     assert_eq!(rt;
         read_frame(&VALUE_FRAME, 1, 1, &mut actions, Version::V02),
@@ -84,7 +84,7 @@ fn a_frame_of_version_02(rt: HostRuntime) -> Result<(), Fail> {
     let mut actions = Vec::with_capacity(rt.alloc(), MOST_ENTRIES)?;
     let mut out = [9; 35];
     let priorities = [Action::SetPriority(AlarmId(0), 3)];
-    write_frame_body(2, 3, &priorities, &mut out);
+    write_frame_body(Version::V02, 2, 3, &priorities, &mut out);
     assert!(rt; out[..] == PRIORITY_FRAME[..]);
     assert_eq!(rt;
         read_frame(&PRIORITY_FRAME, 2, 2, &mut actions, Version::V02),
@@ -104,7 +104,7 @@ fn the_longest_frame(rt: HostRuntime) -> Result<(), Fail> {
     let mut actions = Vec::with_capacity(rt.alloc(), MOST_ENTRIES)?;
     let all = [Action::Ack(AlarmId(7)); 256];
     let mut out = [0; 4115];
-    write_frame_body(u64::MAX, 5, &all, &mut out);
+    write_frame_body(Version::V02, u64::MAX, 5, &all, &mut out);
     assert_eq!(rt;
         read_frame(&out, u64::MAX, 4, &mut actions, Version::V02),
         Ok(4114)
@@ -115,5 +115,76 @@ fn the_longest_frame(rt: HostRuntime) -> Result<(), Fail> {
         read_frame(&out, u64::MAX, 4, &mut actions, Version::V02),
         Err(Damage { at: 4098 })
     );
+    Ok(())
+}
+
+/// A frame of CLOCK 1000 in version 03, without its gate: its checksum is at 14. With the next gate closed.
+const SUMMED_FRAME: [u8; 35] = [
+    0, 0, 0, 0, 0, 0, 0, 1, 0, 0, 0, 1, 0, 255, 0x13, 0xe5, 0xc8, 0xa0, 1, 0, 0, 0, 0, 0, 0, 0, 0,
+    0, 0, 0, 0, 0, 3, 0xe8, 0,
+];
+
+#[test]
+fn a_frame_of_version_03(rt: HostRuntime) -> Result<(), Fail> {
+    let mut actions = Vec::with_capacity(rt.alloc(), MOST_ENTRIES)?;
+    let mut out = [9; 36];
+    let clock = Action::Clock(Moment::new(1000).ok_or("moment")?);
+    write_frame_body(Version::V03, 1, 1, &[clock], &mut out);
+    assert!(rt; out[..35] == SUMMED_FRAME[..] && out[35] == 9);
+    assert_eq!(rt;
+        read_frame(&SUMMED_FRAME, 1, 0, &mut actions, Version::V03),
+        Ok(34)
+    );
+    assert_eq!(rt; actions.as_slice(), [clock].as_slice());
+    for version in [Version::V01, Version::V02] {
+        assert_eq!(rt;
+            read_frame(&SUMMED_FRAME, 1, 0, &mut actions, version),
+            Err(Damage { at: 8 })
+        );
+    }
+    Ok(())
+}
+
+/// Where a changed byte of that frame is reported: at the field that breaks its rule, else at the checksum. Each is the end of
+/// some bytes, and the place.
+const REPORTED_AT: [(usize, usize); 4] = [(8, 0), (12, 8), (14, 12), (34, 14)];
+
+#[test]
+fn a_changed_byte_is_reported(rt: HostRuntime) -> Result<(), Fail> {
+    let mut actions = Vec::with_capacity(rt.alloc(), MOST_ENTRIES)?;
+    for place in 0..34usize {
+        let (_, at) = *REPORTED_AT
+            .iter()
+            .find(|(end, _)| place < *end)
+            .ok_or("place")?;
+        for change in 1..=255u8 {
+            let mut frame = SUMMED_FRAME;
+            let byte = frame.get_mut(place).ok_or("place")?;
+            *byte ^= change;
+            assert_eq!(rt;
+                read_frame(&frame, 1, 0, &mut actions, Version::V03),
+                Err(Damage { at }),
+                "byte {place} by {change}"
+            );
+        }
+    }
+    Ok(())
+}
+
+/// Number, count and checksum of the longest frame of ACK 7, the fifth action of the last epoch.
+const LONGEST_HEAD: [u8; 10] = [0, 0, 0, 5, 0xff, 0, 0x6f, 0x8e, 0x58, 0x1a];
+
+#[test]
+fn the_longest_frame_of_version_03(rt: HostRuntime) -> Result<(), Fail> {
+    let mut actions = Vec::with_capacity(rt.alloc(), MOST_ENTRIES)?;
+    let all = [Action::Ack(AlarmId(7)); 256];
+    let mut out = [0; 4115];
+    write_frame_body(Version::V03, u64::MAX, 5, &all, &mut out);
+    assert!(rt; out[8..18] == LONGEST_HEAD[..]);
+    assert_eq!(rt;
+        read_frame(&out, u64::MAX, 4, &mut actions, Version::V03),
+        Ok(4114)
+    );
+    assert_eq!(rt; actions.as_slice(), all.as_slice());
     Ok(())
 }

@@ -28,7 +28,7 @@
 //!
 //! While a batch waits that was taken as it was fetched, no more than one piece goes out (`waits` of
 //! [`Flusher::advance`]), and the count of its bytes isn't reset (`counted`). A store that keeps its pace takes each
-//! batch as it is fetched, if the half that stands is of version 02 (`taken` of [`Flusher::fetch`]). After its opening
+//! batch as it is fetched, if the half that stands is of version 02 or 03 (`taken` of [`Flusher::fetch`]). After its opening
 //! a store keeps its pace if at most half of the segment is used. Each call preserves this, as long as the segment has
 //! 452,651 bytes or more and epochs are left (`pace` and `newest` of both calls; alm_store's Pace says what that is).
 //!
@@ -55,7 +55,7 @@
 //!   (by `fetch`, `advance`, `give_back`)
 //! - after a commit a checkpoint is open if more than half of the segment is used (but in the last epoch), and none is
 //!   opened otherwise (by `advance`)
-//! - opened with at most half of a segment of 452,651 bytes or more used, in a half of version 02, it takes every batch
+//! - opened with at most half of a segment of 452,651 bytes or more used, in a half with all actions, it takes every batch
 //!   while epochs are left (by `Flusher::new`, `fetch`)
 #![tactic(auto)]
 

@@ -60,13 +60,13 @@ module _ (c : Cut) (plant : Condensed) (actions : List Action) (gate : ℕ) (tai
   }
 
   pub guarded : (loose : ℕ) → Loosely (account_of c plant) loose
-      → Guarded (is_sent (account_of c plant) loose) (Ready (account_of c plant)) (Ready (with_commit (account_of c plant) actions)) (length (front c)) (frame_body c.epoch (plant.panel.count + 1) actions)
+      → Guarded (is_sent (account_of c plant) loose) (Ready (account_of c plant)) (Ready (with_commit (account_of c plant) actions)) (length (front c)) (frame_body c.version c.epoch (plant.panel.count + 1) actions)
   guarded loose is = record {
     front = front c;
     room = take size tail;
     back = drop size tail ++ back c;
     place = refl;
-    fits = room_long c plant actions gate tail stores frame admitted closed reaches takes ∙ sym (body_long c.epoch (plant.panel.count + 1) actions);
+    fits = room_long c plant actions gate tail stores frame admitted closed reaches takes ∙ sym (body_long c.version c.epoch (plant.panel.count + 1) actions);
     closed = held;
     whole = ready c plant actions gate tail stores frame admitted closed reaches takes;
     blind_before = loose_blind (account_of c plant) loose is;
@@ -74,7 +74,7 @@ module _ (c : Cut) (plant : Condensed) (actions : List Action) (gate : ℕ) (tai
   }
 
   pub begun : (loose : ℕ) → Loosely (account_of c plant) loose → (state : DeviceState) (b : List ℕ) → b ≡ device_of c (gate ∷ tail) → ((x : List ℕ) → IsLeft state x → Ready (account_of c plant) x) → RestsBut (is_sent (account_of c plant) loose) state b
-      → Kept (is_sent (account_of c plant) loose) (Ready (account_of c plant)) (Ready (with_commit (account_of c plant) actions)) Body state (length (front c)) (frame_body c.epoch (plant.panel.count + 1) actions)
+      → Kept (is_sent (account_of c plant) loose) (Ready (account_of c plant)) (Ready (with_commit (account_of c plant) actions)) Body state (length (front c)) (frame_body c.version c.epoch (plant.panel.count + 1) actions)
   unfolding guarded
   begun loose is state b shown images rests =
       let here : b ≡ front c ++ (gate ∷ take size tail) ++ (drop size tail ++ back c) =
@@ -84,14 +84,14 @@ module _ (c : Cut) (plant : Condensed) (actions : List Action) (gate : ℕ) (tai
 -- a commit is begun, with or without an open checkpoint
 pub begins : (a : Account) (actions : List Action) (loose : ℕ) (state : DeviceState) (b : List ℕ) → Loosely a loose → IsFrame a.epoch (a.plant.panel.count + 1) actions → AreAdmitted a.plant actions → TakesFrame a actions
     → ((x : List ℕ) → IsLeft state x → Ready a x) → Ready a b → RestsBut (is_sent a loose) state b
-    → Kept (is_sent a loose) (Ready a) (Ready (with_commit a actions)) Body state a.gate (frame_body a.epoch (a.plant.panel.count + 1) actions)
+    → Kept (is_sent a loose) (Ready a) (Ready (with_commit a actions)) Body state a.gate (frame_body a.version a.epoch (a.plant.panel.count + 1) actions)
 begins a actions loose state b is frame admitted takes images r rests =
-    subst (λ (y : Account). Kept (is_sent y loose) (Ready y) (Ready (with_commit y actions)) Body state y.gate (frame_body y.epoch (y.plant.panel.count + 1) actions)) (sym r.is)
+    subst (λ (y : Account). Kept (is_sent y loose) (Ready y) (Ready (with_commit y actions)) Body state y.gate (frame_body y.version y.epoch (y.plant.panel.count + 1) actions)) (sym r.is)
     (begun r.cut a.plant actions r.gate r.tail r.stores (subst (λ (y : Account). IsFrame y.epoch (y.plant.panel.count + 1) actions) r.is frame) admitted r.closed r.reaches (subst (λ (y : Account). TakesFrame y actions) r.is takes)
     loose (subst (λ (y : Account). Loosely y loose) r.is is) state b r.text (subst (λ (y : Account). (x : List ℕ) → IsLeft state x → Ready y x) r.is images) (subst (λ (y : Account). RestsBut (is_sent y loose) state b) r.is rests))
 
 -- in a pause
 pub between : (a : Account) (k : Copy) (actions : List Action) (state : DeviceState) → IsCopy a k → a.gate + 1 ≤ end_of_half a → Paused a k state → IsFrame a.epoch (a.plant.panel.count + 1) actions → AreAdmitted a.plant actions → TakesFrame a actions
-    → Kept (is_sent a k.out) (Ready a) (Ready (with_commit a actions)) Body state a.gate (frame_body a.epoch (a.plant.panel.count + 1) actions)
+    → Kept (is_sent a k.out) (Ready a) (Ready (with_commit a actions)) Body state a.gate (frame_body a.version a.epoch (a.plant.panel.count + 1) actions)
 between a k actions state copy gate p frame admitted takes =
     begins a actions k.out state p.bytes (inr (copy.shut, omega (arith, copy.left, run_fits a k copy gate, length-append (open_text a k) (0 ∷ [])))) frame admitted takes p.images p.ready p.rests

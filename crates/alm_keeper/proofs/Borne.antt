@@ -9,8 +9,9 @@ use Rattle.alm_types.specs.declared.verdict.Verdict.{Verdict}
 use Rattle.alm_types.specs.declared.verdict.Verdict.TheVariants.{Accepted, Refused}
 use Rattle.alm_model.specs.Judging.{accepted_of, when_accepted}
 use Rattle.alm_codec.specs.declared.version.Version.{Version}
-use Rattle.alm_codec.specs.declared.version.Version.TheVariants.{V02}
+use Rattle.alm_codec.specs.declared.version.Version.TheVariants.{V02, V03}
 use Rattle.alm_codec.specs.Versions.{IsBorne, AreBorne}
+use Rattle.alm_codec.proofs.Full.{full_bears}
 use Rattle.alm_keeper.specs.Batch.{bears_verdict, bears_entry}
 
 with_first : (version : Version) (v : Verdict) (rest : List Action) → bears_verdict version v ≡ true → AllByRecursion (IsBorne version) rest → AllByRecursion (IsBorne version) (when_accepted v ++ rest)
@@ -39,10 +40,9 @@ borne_each version (e ∷ entries) all =
 pub borne_all : (version : Version) (entries : List Entry) → AreBorne version (accepted_of entries) → list_all (bears_entry version) entries ≡ true
 borne_all version entries all = borne_each version entries (recursion_from_All (IsBorne version) (accepted_of entries) all)
 
-each_newest : (actions : List Action) → AllByRecursion (IsBorne V02) actions
-each_newest [] = tt
-each_newest (a ∷ actions) = (refl, each_newest actions)
+-- versions 02 and 03 have all actions
+pub second_bears : (actions : List Action) → AreBorne V02 actions
+second_bears actions = full_bears V02 actions refl
 
--- version 02 has all actions
-pub newest_bears : (actions : List Action) → AreBorne V02 actions
-newest_bears actions = All-from_recursion (IsBorne V02) actions (each_newest actions)
+pub third_bears : (actions : List Action) → AreBorne V03 actions
+third_bears actions = full_bears V03 actions refl

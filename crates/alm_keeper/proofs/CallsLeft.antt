@@ -12,9 +12,8 @@ use Rattle.alm_keeper.specs.declared.stage.Work.{Work}
 use Rattle.alm_keeper.specs.declared.stage.Work.TheVariants.{Commit, Checkpoint}
 use Rattle.alm_keeper.specs.Stages.{IsWorking, first_stage, sent_stage, phase_of}
 use Rattle.alm_codec.specs.declared.version.Version.{Version}
-use Rattle.alm_codec.specs.declared.version.Version.TheVariants.{V02}
-use Rattle.alm_codec.specs.Versions.{AreBorne}
-use Rattle.alm_codec.proofs.Frames.{all_borne}
+use Rattle.alm_codec.specs.Versions.{AreBorne, newer}
+use Rattle.alm_codec.proofs.Full.{newer_bears}
 use Rattle.alm_keeper.specs.Keeper.{KeeperView, Standing, HasRoomFor, next, next_by, begun_by, first_run, piece, sends, after_call, after_by, BeginsCommit, BeginsCheckpoint, Progresses}
 use Rattle.alm_store.specs.Advancing.{IsCheckpointing, TakesOn}
 use Rattle.alm_keeper.specs.AsStore.{pieces, body_calls, calls_left}
@@ -201,8 +200,8 @@ module _ {D : Type 0} where
   checkpoint_room (Ok u) old new least begins = λ actions few.
       let is = ap next begins ∙ first_next old.other_open old.stored _ in
       let room : (next new).room ≡ old.segment = ap (λ (s : Standing). s.room) is ∙ omega arith in
-      let version : V02 ≡ (next new).version = ap (λ (s : Standing). s.version) (sym is) in
-      (omega (arith, room, least, few), subst (λ (v : Version). AreBorne v actions) version (all_borne actions))
+      let version : newer old.stored.version ≡ (next new).version = ap (λ (s : Standing). s.version) (sym is) in
+      (omega (arith, room, least, few), subst (λ (v : Version). AreBorne v actions) version (newer_bears old.stored.version actions))
   checkpoint_room (Err why) old new least begins = tt
 
   pub fewer : (old new : KeeperView D) → IsWorking old.stage → (old.work ≡ Checkpoint → old.out ≤ old.run) → Progresses More old new → Left new < Left old
@@ -241,8 +240,8 @@ module _ {D : Type 0} where
   takes_kept Done old new goes_on runs goes not actions room =
       let turns = (turned old new goes_on goes).1 in
       let left : new.stored.room ≡ 25 + old.image + old.segment - old.run = ap (λ (s : Standing). s.room) turns in
-      let version : V02 ≡ new.stored.version = ap (λ (s : Standing). s.version) (sym turns) in
-      (omega (arith, left, runs, room.0), subst (λ (v : Version). AreBorne v actions) version (all_borne actions))
+      let version : newer old.stored.version ≡ new.stored.version = ap (λ (s : Standing). s.version) (sym turns) in
+      (omega (arith, left, runs, room.0), subst (λ (v : Version). AreBorne v actions) version (newer_bears old.stored.version actions))
   takes_kept Failed old new goes_on runs goes not actions room = absurd (not refl)
 
   pub written_more : (result : Progress) (old new : KeeperView D) → Progresses result old new → new.written ≤ old.written + 65536

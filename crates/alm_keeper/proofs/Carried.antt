@@ -1,7 +1,7 @@
 -- What a commit between pieces carries over: what went out, and the copy.
 use Rattle.std.proofs.Common.{◌≡◌, ℕ, ◌+◌, ◌*◌, ◌^◌, ◌≤◌, ◌<◌, Bool, false, List, [], ◌∷◌, ◌++◌, length, take, drop, Result, Ok, sym, ◌∙◌, ap, subst, arith, append_assoc, length-append, length-drop}
 use Rattle.std.proofs.lemmas.List.{ext_get_or, get_or-take, get_or-drop, length-take-le, take-append-le}
-use Rattle.alm_codec.specs.declared.version.Version.TheVariants.{V02}
+use Rattle.alm_codec.specs.Versions.{newer}
 use Rattle.alm_types.specs.declared.action.Action.{Action}
 use Rattle.alm_model.specs.Plant.{Condensed}
 use Rattle.alm_model.specs.Step.{run}
@@ -56,23 +56,23 @@ module _ (a : Account) (k : Copy) (actions : List Action) (copy : IsCopy a k) wh
   counted = sym (ap (λ (q : Condensed). q.panel.count) copy.runs) ∙ run_count k.base (actions_in k.since)
 
   pub frame : List ℕ
-  frame = 165 ∷ frame_text (a.epoch + 1) (k.base.panel.count + length (actions_in k.since) + 1) actions
+  frame = 165 ∷ frame_text (newer a.version) (a.epoch + 1) (k.base.panel.count + length (actions_in k.since) + 1) actions
 
   -- its first number is the next one
-  pub frame_is : frame ≡ 165 ∷ frame_text (a.epoch + 1) (a.plant.panel.count + 1) actions
+  pub frame_is : frame ≡ 165 ∷ frame_text (newer a.version) (a.epoch + 1) (a.plant.panel.count + 1) actions
   unfolding frame
-  frame_is = ap (λ (n : ℕ). 165 ∷ frame_text (a.epoch + 1) (n + 1) actions) (sym counted)
+  frame_is = ap (λ (n : ℕ). 165 ∷ frame_text (newer a.version) (a.epoch + 1) (n + 1) actions) (sym counted)
 
   since_grows : since_text (with_commit a actions) (with_copied_frame k actions) ≡ since_text a k ++ frame
   unfolding frame
-  since_grows = text_pushed (a.epoch + 1) k.base.panel.count k.since actions
+  since_grows = text_pushed (newer a.version) (a.epoch + 1) k.base.panel.count k.since actions
 
   pub since_long : length (since_text (with_commit a actions) (with_copied_frame k actions)) ≡ length (since_text a k) + (19 + 16 * length actions)
   unfolding frame
-  since_long = omega (arith, ap length since_grows, length-append (since_text a k) frame, frame_long (a.epoch + 1) (k.base.panel.count + length (actions_in k.since) + 1) actions)
+  since_long = omega (arith, ap length since_grows, length-append (since_text a k) frame, frame_long (newer a.version) (a.epoch + 1) (k.base.panel.count + length (actions_in k.since) + 1) actions)
 
   abbrev start : List ℕ
-  start = half_head_text a.layout V02 (a.epoch + 1) k.base.panel.count ++ image_text k.base
+  start = half_head_text a.layout (newer a.version) (a.epoch + 1) k.base.panel.count ++ image_text k.base
 
   pub open_grows : open_text (with_commit a actions) (with_copied_frame k actions) ≡ open_text a k ++ frame
   open_grows = ap (λ (t : List ℕ). start ++ t) since_grows ∙ sym (append_assoc start (since_text a k) frame)
@@ -100,7 +100,7 @@ module _ (a : Account) (k : Copy) (actions : List Action) (copy : IsCopy a k) wh
   }
 
   -- after the commit's end the checkpoint is paused as before, with one frame more in its run
-  pub resumes : (state : DeviceState) → Kept (is_sent a k.out) (Ready a) (Ready (with_commit a actions)) Idle state a.gate (frame_body a.epoch (a.plant.panel.count + 1) actions) → WrotePart a (take k.out (run_text a k)) state
+  pub resumes : (state : DeviceState) → Kept (is_sent a k.out) (Ready a) (Ready (with_commit a actions)) Idle state a.gate (frame_body a.version a.epoch (a.plant.panel.count + 1) actions) → WrotePart a (take k.out (run_text a k)) state
       → Paused (with_commit a actions) (with_copied_frame k actions) state
   resumes state kept wrote = record {
     images = kept.images;

@@ -5,6 +5,7 @@ use Rattle.alm_types.specs.declared.action.Action.{Action}
 use Rattle.alm_model.specs.Plant.{Condensed}
 use Rattle.alm_model.specs.Step.{run}
 use Rattle.alm_model.specs.Rules.{AreAdmitted}
+use Rattle.alm_codec.specs.declared.version.Version.{Version}
 use Rattle.alm_codec.specs.Frames.{IsFrame, frame_text, frame_body}
 use Rattle.alm_segment.specs.Course.{is_gate_open}
 use Rattle.alm_checkpoint.specs.Cut.{Cut, Stores, Reaches, front, back, with_frame}
@@ -22,8 +23,8 @@ regroup_body f t l b = simp append_assoc
 pub ready_holds : (a : Account) (b : List ℕ) → Ready a b → HoldsPlant a.epoch a.plant b
 ready_holds a b r = record { cut = r.cut; in_epoch = sym (ap (λ (x : Account). x.epoch) r.is); stores = r.stores; gate = r.gate; closed = r.closed; tail = r.tail; reaches = r.reaches; text = r.text }
 
-pub body_long : (e n : ℕ) (actions : List Action) → length (frame_body e n actions) ≡ 19 + 16 * length actions
-body_long e n actions = omega (arith, frame_long e n actions, length-append (frame_text e n actions) (0 ∷ []))
+pub body_long : (v : Version) (e n : ℕ) (actions : List Action) → length (frame_body v e n actions) ≡ 19 + 16 * length actions
+body_long v e n actions = omega (arith, frame_long v e n actions, length-append (frame_text v e n actions) (0 ∷ []))
 
 module _ (c : Cut) (plant : Condensed) (actions : List Action) (gate : ℕ) (tail : List ℕ) (stores : Stores c plant) (frame : IsFrame c.epoch (plant.panel.count + 1) actions) (admitted : AreAdmitted plant actions)
     (closed : is_gate_open gate ≡ false) (reaches : Reaches c (gate ∷ tail)) (takes : TakesFrame (account_of c plant) actions) where
@@ -31,7 +32,7 @@ module _ (c : Cut) (plant : Condensed) (actions : List Action) (gate : ℕ) (tai
   n = 19 + 16 * length actions
 
   abbrev pub text : List ℕ
-  text = frame_body c.epoch (plant.panel.count + 1) actions
+  text = frame_body c.version c.epoch (plant.panel.count + 1) actions
 
   pub fits : n ≤ length tail
   fits = omega (arith, takes.0, gate_at c plant (gate ∷ tail) stores reaches)
@@ -46,13 +47,13 @@ module _ (c : Cut) (plant : Condensed) (actions : List Action) (gate : ℕ) (tai
   left_long = omega (arith, fits, length-drop n tail)
 
   abbrev t : List ℕ
-  t = frame_text c.epoch (plant.panel.count + 1) actions
+  t = frame_text c.version c.epoch (plant.panel.count + 1) actions
 
   grown : Stores (with_frame c actions) (run plant actions)
   grown = stores_pushed c plant actions stores frame takes.1 admitted
 
   grown_reaches : Reaches (with_frame c actions) (0 ∷ drop n tail)
-  grown_reaches = reaches_pushed c plant actions (0 ∷ drop n tail) stores (omega (arith, reaches, left_long, length-append (165 ∷ t) (0 ∷ drop n tail), frame_long c.epoch (plant.panel.count + 1) actions))
+  grown_reaches = reaches_pushed c plant actions (0 ∷ drop n tail) stores (omega (arith, reaches, left_long, length-append (165 ∷ t) (0 ∷ drop n tail), frame_long c.version c.epoch (plant.panel.count + 1) actions))
 
   pub ready : Ready (with_commit (account_of c plant) actions) (front c ++ (165 ∷ text) ++ (drop n tail ++ back c))
   ready =

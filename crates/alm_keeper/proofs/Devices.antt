@@ -1,15 +1,11 @@
 -- How long the texts of a device are.
 use Rattle.std.proofs.Common.{◌≡◌, ℕ, ◌+◌, ◌*◌, List, ◌∷◌, ◌++◌, length, refl, arith, length-append}
-use Rattle.std.specs.List.{flat_map}
-use Rattle.std.specs.Int.{w16, w64, to_be_bytes}
 use Rattle.alm_types.specs.declared.action.Action.{Action}
 use Rattle.alm_model.specs.Plant.{Condensed}
 use Rattle.alm_codec.specs.Frames.{frame_text}
 use Rattle.alm_codec.specs.declared.version.Version.{Version}
 use Rattle.alm_codec.specs.Image.{image_text}
-use Rattle.alm_codec.specs.Actions.{action_text}
-use Rattle.alm_codec.proofs.Frames.{flat_len}
-use Rattle.alm_codec.proofs.Numbers.{wide16, wide64}
+use Rattle.alm_codec.proofs.Frames.{text_length}
 use Rattle.alm_segment.specs.Texts.{frames_text}
 use Rattle.alm_checkpoint.specs.declared.layout.Layout.{Layout}
 use Rattle.alm_checkpoint.specs.Layouts.{image_size}
@@ -20,15 +16,14 @@ use Rattle.alm_checkpoint.proofs.Shown.{image_is_long}
 pub head_long : (l : Layout) (version : Version) (epoch count : ℕ) → length (half_head_text l version epoch count) ≡ 24
 head_long l version epoch count = refl
 
-pub frame_long : (epoch first : ℕ) (actions : List Action) → length (frame_text epoch first actions) ≡ 18 + 16 * length actions
-frame_long epoch first actions =
-    omega (arith, flat_len actions, length-append (to_be_bytes w64 epoch ++ to_be_bytes w64 first ++ to_be_bytes w16 (length actions)) (flat_map action_text actions), wide64.len epoch, wide64.len first, wide16.len (length actions))
+pub frame_long : (version : Version) (epoch first : ℕ) (actions : List Action) → length (frame_text version epoch first actions) ≡ 18 + 16 * length actions
+frame_long version epoch first actions = text_length version epoch first actions
 
-pub half_long : (c : Cut) (plant : Condensed) → Stores c plant → length (half_text c.layout c.version c.epoch c.base c.frames) ≡ 25 + image_size c.layout + length (frames_text c.epoch c.base.panel.count c.frames)
+pub half_long : (c : Cut) (plant : Condensed) → Stores c plant → length (half_text c.layout c.version c.epoch c.base c.frames) ≡ 25 + image_size c.layout + length (frames_text c.version c.epoch c.base.panel.count c.frames)
 half_long c plant stores = omega (
   arith,
   image_is_long c.layout c.base stores.sizes stores.image,
   head_long c.layout c.version c.epoch c.base.panel.count,
-  length-append ((165 ∷ half_head_text c.layout c.version c.epoch c.base.panel.count) ++ image_text c.base) (frames_text c.epoch c.base.panel.count c.frames),
+  length-append ((165 ∷ half_head_text c.layout c.version c.epoch c.base.panel.count) ++ image_text c.base) (frames_text c.version c.epoch c.base.panel.count c.frames),
   length-append (165 ∷ half_head_text c.layout c.version c.epoch c.base.panel.count) (image_text c.base),
 )

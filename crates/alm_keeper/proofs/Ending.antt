@@ -2,7 +2,7 @@
 use Rattle.std.proofs.Common.{◌≡◌, ◌≢◌, ℕ, ◌+◌, ◌≤◌, Bool, true, false, List, [], ◌∷◌, ◌++◌, length, take, drop, refl, sym, ◌∙◌, ap, subst, arith, append_assoc, length-append}
 use Rattle.std.proofs.lemmas.Bool.{ne_eqb, eqb-false, or_parts}
 use Rattle.std.proofs.lemmas.List.{append-nil, ext_get_or, take_at}
-use Rattle.alm_codec.specs.declared.version.Version.TheVariants.{V02}
+use Rattle.alm_codec.specs.Versions.{newer}
 use Rattle.alm_model.specs.Plant.{Condensed}
 use Rattle.alm_codec.specs.Image.{image_text}
 use Rattle.alm_disk.specs.Device.{DeviceState}
@@ -64,14 +64,14 @@ module _ (c : Cut) (plant : Condensed) (gate : ℕ) (tail : List ℕ) (stores : 
   turned_ready : Ready (turned_by (account_of c plant) k) (ahead ++ (165 ∷ run) ++ (left ++ rear))
   turned_ready = record {
     cut = turned_cut;
-    is = λ i. record { layout = c.layout; half = other c.half; other_open = true; version = V02; epoch = c.epoch + 1; gate = place i; plant = plant };
+    is = λ i. record { layout = c.layout; half = other c.half; other_open = true; version = newer c.version; epoch = c.epoch + 1; gate = place i; plant = plant };
     stores = turned_stores;
     gate = 0;
     closed = refl;
     tail = left;
     reaches = turned_reaches;
-    text = regroup_half ahead (half_head_text c.layout V02 (c.epoch + 1) k.base.panel.count) (image_text k.base) (since_text (account_of c plant) k) left rear
-        ∙ sym (there c plant gate tail stores closed reaches (half_text c.layout V02 (c.epoch + 1) k.base k.since ++ (0 ∷ left)))
+    text = regroup_half ahead (half_head_text c.layout (newer c.version) (c.epoch + 1) k.base.panel.count) (image_text k.base) (since_text (account_of c plant) k) left rear
+        ∙ sym (there c plant gate tail stores closed reaches (half_text c.layout (newer c.version) (c.epoch + 1) k.base k.since ++ (0 ∷ left)))
         ∙ turns_with c k.base k.since (gate ∷ tail) (0 ∷ left);
   }
     where

@@ -5,7 +5,7 @@ use Rattle.std.proofs.lemmas.List.{append-nil, length-take-le, take_at, drop_at,
 use Rattle.std.proofs.lemmas.List.Elements.{All-nil}
 use Rattle.alm_codec.specs.Versions.{IsBorne}
 use Rattle.alm_codec.specs.declared.version.Version.{Version}
-use Rattle.alm_codec.specs.declared.version.Version.TheVariants.{V01, V02}
+use Rattle.alm_codec.specs.declared.version.Version.TheVariants.{V01, V02, V03}
 use Rattle.alm_types.specs.Tables.{Listing, IsTable}
 use Rattle.alm_model.specs.Plant.{Condensed}
 use Rattle.alm_model.specs.New.{new_plant, at_rest}
@@ -156,6 +156,7 @@ nils p q t b = λ i. (sym (append-nil p) i ++ sym (append-nil q) i) ++ t ++ b
 own_version : (v : Version) → allows v v ≡ true
 own_version V01 = refl
 own_version V02 = refl
+own_version V03 = refl
 
 -- the new device
 fresh : Layout → Condensed → List ℕ → List ℕ → Cut

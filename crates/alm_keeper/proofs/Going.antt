@@ -2,6 +2,7 @@
 use Rattle.std.proofs.Common.{◌≡◌, ◌⊎◌, inl, inr, ⊎_elim, ℕ, ◌+◌, ◌-◌, ◌≤◌, Bool, true, false, List, [], ◌∷◌, ◌++◌, length, take, drop, Result, Ok, refl, sym, ◌∙◌, ap, subst, arith, append_assoc, length-append, ◌==◌, if◌then◌else◌}
 use Rattle.std.proofs.lemmas.List.{take_at, length-take-le}
 use Rattle.alm_types.specs.declared.action.Action.{Action}
+use Rattle.alm_codec.specs.Versions.{newer}
 use Rattle.alm_codec.specs.Frames.{frame_body, frame_text}
 use Rattle.alm_disk.specs.Device.{DeviceState, IsImage, Writes}
 use Rattle.alm_disk.specs.declared.disk_fault.DiskFault.{DiskFault}
@@ -58,7 +59,7 @@ IsClosing stage = ⊥
 
 module _ (result : Result Unit DiskFault) (a : Account) (actions : List Action) (n : ℕ) (old new : DeviceState) where
   abbrev body : List ℕ
-  body = frame_body a.epoch (a.plant.panel.count + 1) actions
+  body = frame_body a.version a.epoch (a.plant.panel.count + 1) actions
 
   pub alone_call : (stage : Stage) → StageCall stage a.gate body result old new → MakesCall (work_alone stage actions) a n result old new
   alone_call Idle call = absurd call
@@ -134,9 +135,9 @@ module _ (result : Result Unit DiskFault) (old new : DeviceState) (b : Book) (i 
       let here = kept_beside b old b.stage b.work works kept in
       (here.0, here.1, here.2, advances result (work_beside b.stage b.work (at_out here.0 b.out) acts) a (piece_of b) old new i.gate here.2 (with_copy refl here.0 here.1))
 
-  pub commit_passes : (text : List ℕ) → b.work ≡ Commit → text ≡ frame_body b.epoch (b.stored.panel.count + 1) acts → StageCall b.stage b.gate text result old new → Keeps old b → PassesOn result old new b
+  pub commit_passes : (text : List ℕ) → b.work ≡ Commit → text ≡ frame_body b.version b.epoch (b.stored.panel.count + 1) acts → StageCall b.stage b.gate text result old new → Keeps old b → PassesOn result old new b
   commit_passes text is same call kept =
-      let here : StageCall b.stage b.gate (frame_body b.epoch (b.stored.panel.count + 1) acts) result old new = subst (λ (t : List ℕ). StageCall b.stage b.gate t result old new) same call in
+      let here : StageCall b.stage b.gate (frame_body b.version b.epoch (b.stored.panel.count + 1) acts) result old new = subst (λ (t : List ℕ). StageCall b.stage b.gate t result old new) same call in
       by_copying b.copying (λ off. alone_call result a acts (piece_of b) old new b.stage here)
       (λ on k run.
       let may : Possible b.stage true Commit = subst (λ (w : Work). Possible b.stage true w) is (subst (λ (o : Bool). Possible b.stage o b.work) on (possible b i works)) in
@@ -282,8 +283,8 @@ grows_run : (old new : Book) (k : Copy) → IsCopy (account old) k → run_text 
 grows_run old new k copy run long account_is g =
     (λ j. run_text (account_is j) (with_copied_frame k old.actions.items))
     ∙ ap (λ (t : List ℕ). t ++ 0 ∷ []) (open_grows (account old) k old.actions.items copy ∙ ap (λ (t : List ℕ). open_text (account old) k ++ t) (frame_is (account old) k old.actions.items copy))
-    ∙ append_assoc (open_text (account old) k) (165 ∷ frame_text (old.epoch + 1) (old.stored.panel.count + 1) old.actions.items) (0 ∷ [])
-    ∙ ap (λ (t : List ℕ). t ++ (165 ∷ frame_body (old.epoch + 1) (old.stored.panel.count + 1) old.actions.items)) front
+    ∙ append_assoc (open_text (account old) k) (165 ∷ frame_text (newer old.version) (old.epoch + 1) (old.stored.panel.count + 1) old.actions.items) (0 ∷ [])
+    ∙ ap (λ (t : List ℕ). t ++ (165 ∷ frame_body (newer old.version) (old.epoch + 1) (old.stored.panel.count + 1) old.actions.items)) front
     ∙ sym g.text
   where
     size : length (open_text (account old) k) ≡ old.run - 1

@@ -9,6 +9,8 @@ use Rattle.alm_model.specs.Step.{run}
 use Rattle.alm_model.specs.Rules.{KeepsRules}
 use Rattle.alm_model.proofs.Kept.{run-keeps}
 use Rattle.alm_model.proofs.Runs.{run_sizes, run_within}
+use Rattle.alm_codec.specs.declared.version.Version.{Version}
+use Rattle.alm_codec.specs.Versions.{newer}
 use Rattle.alm_codec.specs.Frames.{frame_body}
 use Rattle.alm_codec.specs.Image.{IsOf, image_text, image_len}
 use Rattle.alm_codec.proofs.Spelled.{image_length}
@@ -279,12 +281,15 @@ ordered_by old mid new i last is s c ahead frame actions buffer within =
     (ap (λ a. vec_capacity a) actions ∙ ap (λ (b : Book). vec_capacity b.actions) s.1 ∙ i.room) (buffer ∙ ap (λ (b : Book). vec_capacity b.buffer) s.1) within
 
 -- a frame at the end of the run
-pub grown_by : (old mid new : Book) → Stores old mid → (actions : List Action) (first : ℕ) → actions ≡ mid.actions.items → first ≡ old.stored.panel.count + 1
-    → take (mid.run + (19 + 16 * length actions)) new.buffer.items ≡ take (mid.run - 1) mid.buffer.items ++ (165 ∷ frame_body (mid.epoch + 1) first actions) → new.run ≡ mid.run + (19 + 16 * length mid.actions.items) → GrowsBook old new
-grown_by old mid new s actions first same is text run = record { run = grows; text = all }
+pub grown_by : (old mid new : Book) → Stores old mid → (version : Version) (actions : List Action) (first : ℕ) → version ≡ newer mid.version → actions ≡ mid.actions.items → first ≡ old.stored.panel.count + 1
+    → take (mid.run + (19 + 16 * length actions)) new.buffer.items ≡ take (mid.run - 1) mid.buffer.items ++ (165 ∷ frame_body version (mid.epoch + 1) first actions) → new.run ≡ mid.run + (19 + 16 * length mid.actions.items) → GrowsBook old new
+grown_by old mid new s version actions first of_version same is text run = record { run = grows; text = all }
   where
     acts : actions ≡ old.actions.items
     acts = same ∙ ap (λ (b : Book). b.actions.items) s.1
+
+    versions : version ≡ newer old.version
+    versions = of_version ∙ ap (λ (b : Book). newer b.version) s.1
 
     runs : mid.run ≡ old.run
     runs = ap (λ (b : Book). b.run) s.1
@@ -298,8 +303,8 @@ grown_by old mid new s actions first same is text run = record { run = grows; te
     front : take (mid.run - 1) mid.buffer.items ≡ take (old.run - 1) (run_in old)
     front = (λ i. take (runs i - 1) (s.1 i).buffer.items) ∙ sym (take-take (old.run - 1) old.run old.buffer.items (omega arith))
 
-    all : run_in new ≡ take (old.run - 1) (run_in old) ++ (165 ∷ frame_body (old.epoch + 1) (old.stored.panel.count + 1) old.actions.items)
-    all = ap (λ (n : ℕ). take n new.buffer.items) size ∙ text ∙ (λ i. front i ++ (165 ∷ frame_body ((s.1 i).epoch + 1) (is i) (acts i)))
+    all : run_in new ≡ take (old.run - 1) (run_in old) ++ (165 ∷ frame_body (newer old.version) (old.epoch + 1) (old.stored.panel.count + 1) old.actions.items)
+    all = ap (λ (n : ℕ). take n new.buffer.items) size ∙ text ∙ (λ i. front i ++ (165 ∷ frame_body (versions i) ((s.1 i).epoch + 1) (is i) (acts i)))
 
 -- ---- how long everything is
 

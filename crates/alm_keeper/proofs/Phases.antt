@@ -69,7 +69,7 @@ module _ (E : Type 0) (a : Account) (k : Copy) (actions : List Action) (old new 
   gone = take k.out (run_text a k)
 
   abbrev body : List ℕ
-  body = frame_body a.epoch (a.plant.panel.count + 1) actions
+  body = frame_body a.version a.epoch (a.plant.panel.count + 1) actions
 
   short : length gone + 1 ≤ half_len a.layout
   short = omega (arith, length-take-le k.out (run_text a k) (omega (arith, c.left, length-append (open_text a k) (0 ∷ []))), run_fits a k c gate, c.left, length-append (open_text a k) (0 ∷ []))
@@ -80,7 +80,7 @@ module _ (E : Type 0) (a : Account) (k : Copy) (actions : List Action) (old new 
   stays Body call kept wrote =
       let g = kept.stands.0 in
       let long : other_at a + half_len a.layout ≤ length old.bytes = omega (arith, ap length kept.stands.3.reads, ready_long a (with_gate g kept.stands.1 g.room) (g.closed kept.stands.1 kept.stands.2 g.room refl)) in
-      wrote_write {E = E} (Ok tt) a gone old new (a.gate + 1) body short long (omega (arith, c.room)) (omega (arith, takes.0, body_long a.epoch (a.plant.panel.count + 1) actions)) call wrote
+      wrote_write {E = E} (Ok tt) a gone old new (a.gate + 1) body short long (omega (arith, c.room)) (omega (arith, takes.0, body_long a.version a.epoch (a.plant.panel.count + 1) actions)) call wrote
   stays BodySync call kept wrote =
       wrote_sync {E = E} (or_within (a.gate + 1) (length body) (is_sent a k.out)) a gone old new (with_gate kept.stands.0 kept.stands.1 body) kept.stands.3 call wrote
   stays Gate call kept wrote =
@@ -104,7 +104,7 @@ rested_by a state loose Before at text free kept = record {
 
 module _ (E : Type 0) (a : Account) (actions : List Action) (old new : DeviceState) (gate : a.gate + 1 ≤ end_of_half a) where
   abbrev text : List ℕ
-  text = frame_body a.epoch (a.plant.panel.count + 1) actions
+  text = frame_body a.version a.epoch (a.plant.panel.count + 1) actions
 
   besides : (other : Option Copy) (step : Stage) → TakesFrame a actions → StageCall {E = E} step a.gate text (Ok tt) old new → Kept (is_sent a (out_of other)) (Ready a) (Ready (with_commit a actions)) step old a.gate text
       → Beside other a old → Beside other a new
@@ -155,7 +155,7 @@ phase_moments result (Shut k) a n old new gate kept call b moment = ⊎_elim (λ
 phase_moments result (ShutSync k) a n old new gate kept call b moment = ⊎_elim (kept.2.images b) (sync_images result a old new kept.2 call b) moment
 phase_moments result (Pause k) a n old new gate kept call b moment = ⊎_elim (kept.1.images b) (piece_images a k n old new kept.0 gate call.0 kept.1 result call.1 b) moment
 phase_moments result (Frame other step actions) a n old new gate kept call b moment =
-    moments result (is_sent a (out_of other)) (Ready a) (Ready (with_commit a actions)) old new a.gate (frame_body a.epoch (a.plant.panel.count + 1) actions) step call kept.2 b moment
+    moments result (is_sent a (out_of other)) (Ready a) (Ready (with_commit a actions)) old new a.gate (frame_body a.version a.epoch (a.plant.panel.count + 1) actions) step call kept.2 b moment
 phase_moments result (End k step) a n old new gate kept call b moment = moments result (λ place. false) (Ready a) (Ready (turned_by a k)) old new (other_at a) (run_text a k) step call kept b moment
 
 pub advances : {E : Type 0} (result : Result Unit E) (phase : UnderWay) (a : Account) (n : ℕ) (old new : DeviceState) → a.gate + 1 ≤ end_of_half a → KeptIn phase a old → MakesCall phase a n result old new → WorkAdvances phase a n result old new

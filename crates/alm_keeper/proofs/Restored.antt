@@ -30,7 +30,7 @@ pub restored : (o : Opened) (plant : Condensed) (gate : ℕ) → Holds o plant g
 restored o plant gate h bytes long few =
     let f = found_in o.head.version h.base o.head.epoch h.base.panel.count o.segment (plant, h.left) bytes h.folds in
     let s = run_sizes h.base (actions_in f.frames) h.spells.image.rules.measured in
-    let text = frames_text o.head.epoch h.base.panel.count f.frames in
+    let text = frames_text o.head.version o.head.epoch h.base.panel.count f.frames in
     record {
       rules = subst KeepsRules f.runs (run-keeps h.base (actions_in f.frames) h.spells.image.rules f.admitted);
       sizes = subst (λ (q : Condensed). IsOf o.layout.rows o.layout.areas q.panel.count q) f.runs (record { by_rows = s.0 ∙ h.spells.sizes.by_rows; by_areas = s.1 ∙ h.spells.sizes.by_areas; by_count = refl });

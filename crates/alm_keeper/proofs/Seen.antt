@@ -1,6 +1,6 @@
 -- What callers see of a book's calls.
 use Rattle.std.proofs.Common.{◌≡◌, ℕ, ◌+◌, ◌-◌, Bool, true, false, List, length, Result, Ok, Err, refl, sym, ◌∙◌, ap, subst, arith}
-use Rattle.alm_codec.specs.declared.version.Version.TheVariants.{V02}
+use Rattle.alm_codec.specs.Versions.{newer}
 use Rattle.alm_types.specs.declared.action.Action.{Action}
 use Rattle.alm_model.specs.Step.{run}
 use Rattle.alm_segment.specs.Course.{frame_len}
@@ -26,7 +26,7 @@ after_commit a actions = λ i. record { version = a.version; epoch = a.epoch; pl
     left = omega arith
 
 pub after_checkpoint : (a : Account) (n : ℕ) → standing_by (turned_half a n) ≡ with_checkpoint (head_len + image_size a.layout + a.layout.segment) n (standing_by a)
-after_checkpoint a n = λ i. record { version = V02; epoch = a.epoch + 1; plant = a.plant; room = left i }
+after_checkpoint a n = λ i. record { version = newer a.version; epoch = a.epoch + 1; plant = a.plant; room = left i }
   where
     left : end_of_half (turned_half a n) - (turned_half a n).gate ≡ head_len + image_size a.layout + a.layout.segment - n
     left = omega arith

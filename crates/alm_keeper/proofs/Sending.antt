@@ -2,7 +2,7 @@
 use Rattle.std.proofs.Common.{◌≡◌, ⊎_elim, ℕ, ◌+◌, ◌≤◌, false, ◌||◌, List, [], ◌∷◌, ◌++◌, length, take, drop, Result, Ok, refl, sym, ◌∙◌, ap, subst, arith, append_assoc, length-append, length-drop, take-append-drop}
 use Rattle.std.proofs.lemmas.List.{length-take-le}
 use Rattle.std.proofs.Math.Seq.{take-append-add}
-use Rattle.alm_codec.specs.declared.version.Version.TheVariants.{V02}
+use Rattle.alm_codec.specs.Versions.{newer}
 use Rattle.alm_codec.specs.Image.{image_text, image_len}
 use Rattle.alm_codec.proofs.Spelled.{image_length}
 use Rattle.alm_disk.specs.Device.{DeviceState, Writes, is_within}
@@ -30,9 +30,9 @@ open_long a k c =
     omega (
       arith,
       image,
-      head_long a.layout V02 (a.epoch + 1) k.base.panel.count,
-      length-append (half_head_text a.layout V02 (a.epoch + 1) k.base.panel.count ++ image_text k.base) (since_text a k),
-      length-append (half_head_text a.layout V02 (a.epoch + 1) k.base.panel.count) (image_text k.base),
+      head_long a.layout (newer a.version) (a.epoch + 1) k.base.panel.count,
+      length-append (half_head_text a.layout (newer a.version) (a.epoch + 1) k.base.panel.count ++ image_text k.base) (since_text a k),
+      length-append (half_head_text a.layout (newer a.version) (a.epoch + 1) k.base.panel.count) (image_text k.base),
     )
 
 pub run_long : (a : Account) (k : Copy) → IsCopy a k → length (run_text a k) ≡ 25 + image_size a.layout + length (since_text a k)

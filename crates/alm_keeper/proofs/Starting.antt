@@ -4,7 +4,7 @@ use Rattle.std.proofs.lemmas.List.{append-nil}
 use Rattle.alm_types.specs.declared.action.Action.{Action}
 use Rattle.alm_codec.specs.Image.{image_text}
 use Rattle.alm_disk.specs.Device.{DeviceState, IsImage}
-use Rattle.alm_codec.specs.declared.version.Version.TheVariants.{V02}
+use Rattle.alm_codec.specs.Versions.{newer}
 use Rattle.alm_checkpoint.specs.Headers.{half_head_text}
 use Rattle.alm_checkpoint.specs.declared.layout.Layout.{Layout}
 use Rattle.alm_checkpoint.specs.Layouts.{device_len}
@@ -102,8 +102,8 @@ pub still_fits : (old new : Book) (size : ℕ) → new.layout ≡ old.layout →
 still_fits old new size same f = record { fits = subst (λ (l : Layout). device_len l ≤ size) (sym same) f.fits; in_memory = f.in_memory }
 
 -- the run of a copy of which nothing went out
-run_is : (a : Account) → run_text a (new_copy a) ≡ half_head_text a.layout V02 (a.epoch + 1) a.plant.panel.count ++ image_text a.plant ++ 0 ∷ []
-run_is a = ap (λ (l : List ℕ). l ++ 0 ∷ []) (append-nil (half_head_text a.layout V02 (a.epoch + 1) a.plant.panel.count ++ image_text a.plant))
+run_is : (a : Account) → run_text a (new_copy a) ≡ half_head_text a.layout (newer a.version) (a.epoch + 1) a.plant.panel.count ++ image_text a.plant ++ 0 ∷ []
+run_is a = ap (λ (l : List ℕ). l ++ 0 ∷ []) (append-nil (half_head_text a.layout (newer a.version) (a.epoch + 1) a.plant.panel.count ++ image_text a.plant))
 
 pub copied_keeps : (result : Result Unit Refused) (old new : Book) (state : DeviceState) → Copies result old new → InOrder old → InOrder new → Keeps state old → Keeps state new
 copied_keeps (Ok _) old new state b before i k =

@@ -2,7 +2,8 @@
 use Rattle.std.proofs.Common.{◌≡◌, ◌≢◌, ◌≤◌, ◌+◌, ◌-◌, ◌*◌, ◌/◌, ◌==◌, ℕ, Bool, true, false, List, length, Some, Result, Ok, Err, OnOk, IfOk, if◌then◌else◌, refl, sym, ◌∙◌, ap, subst, arith}
 use Rattle.std.proofs.lemmas.Bool.{eqb-true, eqb-false, ne_eqb}
 use Rattle.alm_types.specs.declared.action.Action.{Action}
-use Rattle.alm_codec.specs.declared.version.Version.TheVariants.{V02}
+use Rattle.alm_codec.specs.Versions.{is_full}
+use Rattle.alm_codec.proofs.Full.{newer_full}
 use Rattle.alm_store.specs.declared.progress.Progress.{Progress}
 use Rattle.alm_store.specs.declared.progress.Progress.TheVariants.{More, Done, Failed}
 use Rattle.alm_store.specs.declared.refused.Refused.{Refused}
@@ -89,7 +90,7 @@ module _ {D : Type 0} (k : KeeperView D) where
   ends_by Commit frame small = let f = frame refl in (omega (arith, f.0), refl, grows k.copying f.1 small f.0)
   ends_by Checkpoint frame small = (omega arith, refl)
 
-  version_by : (s : Stage) (w : Work) → k.stored.version ≡ V02 → (after_by s w k).stored.version ≡ V02
+  version_by : (s : Stage) (w : Work) → is_full k.stored.version ≡ true → is_full (after_by s w k).stored.version ≡ true
   version_by Idle w is = is
   version_by Stopped w is = is
   version_by Close w is = is
@@ -99,7 +100,7 @@ module _ {D : Type 0} (k : KeeperView D) where
   version_by BodySync w is = is
   version_by Gate w is = is
   version_by GateSync Commit is = is
-  version_by GateSync Checkpoint is = refl
+  version_by GateSync Checkpoint is = newer_full k.stored.version
 
   segment_by : (s : Stage) (w : Work) → (after_by s w k).segment ≡ k.segment
   segment_by Idle w = refl
@@ -119,22 +120,22 @@ module _ {D : Type 0} (old new : KeeperView D) where
   segment_stays Done goes = ap (λ (k : KeeperView D). k.segment) goes.1 ∙ segment_by old old.stage old.work
   segment_stays Failed goes = ap (λ (k : KeeperView D). k.segment) goes
 
-  pub newest_stays : (result : Progress) → Progresses result old new → old.stored.version ≡ V02 → new.stored.version ≡ V02
-  newest_stays More goes is = ap (λ (k : KeeperView D). k.stored.version) goes.1 ∙ version_by old old.stage old.work is
-  newest_stays Done goes is = ap (λ (k : KeeperView D). k.stored.version) goes.1 ∙ version_by old old.stage old.work is
-  newest_stays Failed goes is = ap (λ (k : KeeperView D). k.stored.version) goes ∙ is
+  pub newest_stays : (result : Progress) → Progresses result old new → is_full old.stored.version ≡ true → is_full new.stored.version ≡ true
+  newest_stays More goes is = ap (λ (k : KeeperView D). is_full k.stored.version) goes.1 ∙ version_by old old.stage old.work is
+  newest_stays Done goes is = ap (λ (k : KeeperView D). is_full k.stored.version) goes.1 ∙ version_by old old.stage old.work is
+  newest_stays Failed goes is = ap (λ (k : KeeperView D). is_full k.stored.version) goes ∙ is
 
-  pub newest_begun : (result : Result Unit Refused) (actions : List Action) → BeginsCommit result actions old new → old.stored.version ≡ V02 → new.stored.version ≡ V02
-  newest_begun (Ok u) actions begins is = ap (λ (k : KeeperView D). k.stored.version) begins ∙ is
-  newest_begun (Err (no.NotAccepted place)) actions begins is = ap (λ (k : KeeperView D). k.stored.version) begins ∙ is
-  newest_begun (Err no.Stopped) actions begins is = ap (λ (k : KeeperView D). k.stored.version) begins ∙ is
-  newest_begun (Err no.Working) actions begins is = ap (λ (k : KeeperView D). k.stored.version) begins ∙ is
-  newest_begun (Err no.Gap) actions begins is = ap (λ (k : KeeperView D). k.stored.version) begins ∙ is
-  newest_begun (Err no.Exhausted) actions begins is = ap (λ (k : KeeperView D). k.stored.version) begins ∙ is
+  pub newest_begun : (result : Result Unit Refused) (actions : List Action) → BeginsCommit result actions old new → is_full old.stored.version ≡ true → is_full new.stored.version ≡ true
+  newest_begun (Ok u) actions begins is = ap (λ (k : KeeperView D). is_full k.stored.version) begins ∙ is
+  newest_begun (Err (no.NotAccepted place)) actions begins is = ap (λ (k : KeeperView D). is_full k.stored.version) begins ∙ is
+  newest_begun (Err no.Stopped) actions begins is = ap (λ (k : KeeperView D). is_full k.stored.version) begins ∙ is
+  newest_begun (Err no.Working) actions begins is = ap (λ (k : KeeperView D). is_full k.stored.version) begins ∙ is
+  newest_begun (Err no.Gap) actions begins is = ap (λ (k : KeeperView D). is_full k.stored.version) begins ∙ is
+  newest_begun (Err no.Exhausted) actions begins is = ap (λ (k : KeeperView D). is_full k.stored.version) begins ∙ is
 
-  pub newest_copied : (result : Result Unit Refused) → BeginsCheckpoint result old new → old.stored.version ≡ V02 → new.stored.version ≡ V02
-  newest_copied (Ok u) begins is = ap (λ (k : KeeperView D). k.stored.version) begins ∙ is
-  newest_copied (Err why) begins is = ap (λ (k : KeeperView D). k.stored.version) begins ∙ is
+  pub newest_copied : (result : Result Unit Refused) → BeginsCheckpoint result old new → is_full old.stored.version ≡ true → is_full new.stored.version ≡ true
+  newest_copied (Ok u) begins is = ap (λ (k : KeeperView D). is_full k.stored.version) begins ∙ is
+  newest_copied (Err why) begins is = ap (λ (k : KeeperView D). is_full k.stored.version) begins ∙ is
 
   pace_after : (result : Progress) → IsWorking old.stage → old.image ≤ 3289168 → (IsWorking old.stage → old.work ≡ Commit → (length old.actions ≤ 256) × (old.copying ≡ true → old.out + 1 ≤ old.run))
       → (old.stage ≡ Body → old.work ≡ Checkpoint → old.out + 1 ≤ old.run) → Progresses result old new → PaceAfter result (phase_of old.stage old.work) (used_room old) (used_room new) new.written (going_of old) (going_of new)

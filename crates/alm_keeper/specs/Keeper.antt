@@ -8,8 +8,7 @@ use Rattle.alm_disk.specs.declared.call.Call.{Call}
 use Rattle.alm_disk.specs.declared.call.Call.TheVariants.{Read, Write, Sync}
 use Rattle.alm_disk.specs.declared.disk_fault.DiskFault.{DiskFault}
 use Rattle.alm_codec.specs.declared.version.Version.{Version}
-use Rattle.alm_codec.specs.declared.version.Version.TheVariants.{V02}
-use Rattle.alm_codec.specs.Versions.{AreBorne}
+use Rattle.alm_codec.specs.Versions.{AreBorne, newer}
 use Rattle.alm_segment.specs.Course.{frame_len}
 use Rattle.alm_checkpoint.specs.declared.half.Half.{Half}
 use Rattle.alm_checkpoint.specs.declared.half.Half.TheVariants.{First, Second}
@@ -81,7 +80,7 @@ abbrev pub with_actions : Standing → List Action → Standing
 with_actions s actions = record { version = s.version; epoch = s.epoch; plant = run s.plant actions; room = s.room - frame_len (length actions) }
 
 abbrev pub with_checkpoint : (half run : ℕ) → Standing → Standing
-with_checkpoint half run s = record { version = V02; epoch = s.epoch + 1; plant = s.plant; room = half - run }
+with_checkpoint half run s = record { version = newer s.version; epoch = s.epoch + 1; plant = s.plant; room = half - run }
 
 -- what the work that is begun makes of what is stored
 abbrev pub begun_by : {D : Type 0} → Work → KeeperView D → Standing

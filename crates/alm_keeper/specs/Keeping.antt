@@ -7,7 +7,7 @@ use Rattle.alm_types.specs.declared.action.Action.{Action}
 use Rattle.alm_model.specs.Plant.{Condensed}
 use Rattle.alm_model.specs.Rules.{KeepsRules, AreAdmitted}
 use Rattle.alm_codec.specs.Frames.{IsFrame, frame_body}
-use Rattle.alm_codec.specs.declared.version.Version.TheVariants.{V02}
+use Rattle.alm_codec.specs.Versions.{newer}
 use Rattle.alm_codec.specs.Image.{IsOf, image_text}
 use Rattle.alm_segment.specs.Course.{frame_len}
 use Rattle.alm_checkpoint.specs.Headers.{half_head_text}
@@ -59,7 +59,7 @@ pub record Committing (a : Account) (actions : List Action) (frame : List ℕ) (
   pub spells : IsFrame a.epoch (a.plant.panel.count + 1) actions
   pub admitted : AreAdmitted a.plant actions
   pub takes : TakesFrame a actions
-  pub text : take (19 + 16 * length actions) frame ≡ frame_body a.epoch (a.plant.panel.count + 1) actions
+  pub text : take (19 + 16 * length actions) frame ≡ frame_body a.version a.epoch (a.plant.panel.count + 1) actions
   pub tried : ahead ≡ (with_commit a actions).plant
 
 abbrev pub DoesWork : Work → Book → Type 0
@@ -140,7 +140,7 @@ pub record OpensCheckpoint (old new : Book) : Type 0 where
   pub actions : new.actions.items ≡ old.actions.items
   pub copying : new.copying ≡ true
   pub run : new.run ≡ head_len + image_size old.layout
-  pub text : run_in new ≡ half_head_text old.layout V02 (old.epoch + 1) old.stored.panel.count ++ image_text old.stored ++ 0 ∷ []
+  pub text : run_in new ≡ half_head_text old.layout (newer old.version) (old.epoch + 1) old.stored.panel.count ++ image_text old.stored ++ 0 ∷ []
   pub out : new.out ≡ 0
   pub written : new.written ≡ old.written
 
@@ -151,7 +151,7 @@ Copies (Err why) old new = new ≡ old
 -- the frame of the commit that is done goes out with an open checkpoint
 pub record GrowsBook (old new : Book) : Type 0 where
   pub run : new.run ≡ old.run + frame_len (length old.actions.items)
-  pub text : run_in new ≡ take (old.run - 1) (run_in old) ++ (165 ∷ frame_body (old.epoch + 1) (old.stored.panel.count + 1) old.actions.items)
+  pub text : run_in new ≡ take (old.run - 1) (run_in old) ++ (165 ∷ frame_body (newer old.version) (old.epoch + 1) (old.stored.panel.count + 1) old.actions.items)
 
 abbrev pub GrowsWhere : Bool → (old new : Book) → Type 0
 GrowsWhere true old new = GrowsBook old new

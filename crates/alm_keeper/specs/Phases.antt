@@ -60,7 +60,7 @@ KeptIn Rest a state = Rested a state
 KeptIn (Shut k) a state = (a.other_open ≡ true) × IsCopy (with_other_shut a) k × (k.out ≡ 0) × Rested a state
 KeptIn (ShutSync k) a state = IsCopy (with_other_shut a) k × (k.out ≡ 0) × ClosesOther a state
 KeptIn (Pause k) a state = IsCopy a k × Paused a k state
-KeptIn (Frame other stage actions) a state = Commits a actions × Beside other a state × Kept (is_sent a (out_of other)) (Ready a) (Ready (with_commit a actions)) stage state a.gate (frame_body a.epoch (a.plant.panel.count + 1) actions)
+KeptIn (Frame other stage actions) a state = Commits a actions × Beside other a state × Kept (is_sent a (out_of other)) (Ready a) (Ready (with_commit a actions)) stage state a.gate (frame_body a.version a.epoch (a.plant.panel.count + 1) actions)
 KeptIn (End k stage) a state = Kept (λ place. false) (Ready a) (Ready (turned_by a k)) stage state (other_at a) (run_text a k)
 
 -- the one call of a stage, for the gate at a place and the text after it
@@ -79,7 +79,7 @@ MakesCall Rest a n result old new = ⊥
 MakesCall (Shut k) a n result old new = Writes (other_at a) (0 ∷ []) result old new
 MakesCall (ShutSync k) a n result old new = Syncs result old new
 MakesCall (Pause k) a n result old new = (k.out + n ≤ length (run_text a k)) × Writes (other_at a + 1 + k.out) (take n (drop k.out (run_text a k))) result old new
-MakesCall (Frame other stage actions) a n result old new = StageCall stage a.gate (frame_body a.epoch (a.plant.panel.count + 1) actions) result old new
+MakesCall (Frame other stage actions) a n result old new = StageCall stage a.gate (frame_body a.version a.epoch (a.plant.panel.count + 1) actions) result old new
 MakesCall (End k stage) a n result old new = StageCall stage (other_at a) (run_text a k) result old new
 
 -- what a crash leaves at any moment of it

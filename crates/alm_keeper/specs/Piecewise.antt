@@ -4,7 +4,7 @@ use Rattle.alm_types.specs.declared.action.Action.{Action}
 use Rattle.alm_model.specs.Plant.{Condensed}
 use Rattle.alm_model.specs.Step.{run}
 use Rattle.alm_model.specs.Rules.{AreAdmitted}
-use Rattle.alm_codec.specs.declared.version.Version.TheVariants.{V02}
+use Rattle.alm_codec.specs.Versions.{newer}
 use Rattle.alm_codec.specs.Image.{IsImageText, IsOf, image_text}
 use Rattle.alm_disk.specs.Device.{DeviceState, is_within}
 use Rattle.alm_disk.specs.Device.{IsImage as IsLeft}
@@ -27,11 +27,11 @@ new_copy a = record { base = a.plant; since = []; out = 0 }
 
 -- the frames since, with the new epoch and open gates
 abbrev pub since_text : Account → Copy → List ℕ
-since_text a k = frames_text (a.epoch + 1) k.base.panel.count k.since
+since_text a k = frames_text (newer a.version) (a.epoch + 1) k.base.panel.count k.since
 
 -- what precedes the run's last byte, its closed gate: the head from its offset 1, the image, the frames since
 abbrev pub open_text : Account → Copy → List ℕ
-open_text a k = half_head_text a.layout V02 (a.epoch + 1) k.base.panel.count ++ image_text k.base ++ since_text a k
+open_text a k = half_head_text a.layout (newer a.version) (a.epoch + 1) k.base.panel.count ++ image_text k.base ++ since_text a k
 
 -- the run
 abbrev pub run_text : Account → Copy → List ℕ
@@ -70,7 +70,7 @@ pub record Paused (a : Account) (k : Copy) (state : DeviceState) : Type 0 where
 
 -- the device after the checkpoint's end
 abbrev pub turned_by : Account → Copy → Account
-turned_by a k = record a { half = other a.half; other_open = true; version = V02; epoch = a.epoch + 1; gate = other_at a + 1 + length (open_text a k) }
+turned_by a k = record a { half = other a.half; other_open = true; version = newer a.version; epoch = a.epoch + 1; gate = other_at a + 1 + length (open_text a k) }
 
 -- one frame more
 abbrev pub with_copied_frame : Copy → List Action → Copy

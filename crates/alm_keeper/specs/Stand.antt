@@ -4,8 +4,7 @@ use Rattle.alm_types.specs.declared.action.Action.{Action}
 use Rattle.alm_model.specs.Plant.{Condensed}
 use Rattle.alm_model.specs.Step.{run}
 use Rattle.alm_codec.specs.declared.version.Version.{Version}
-use Rattle.alm_codec.specs.declared.version.Version.TheVariants.{V02}
-use Rattle.alm_codec.specs.Versions.{AreBorne}
+use Rattle.alm_codec.specs.Versions.{AreBorne, newer}
 use Rattle.alm_segment.specs.Course.{is_gate_open, frame_len}
 use Rattle.alm_checkpoint.specs.declared.layout.Layout.{Layout}
 use Rattle.alm_checkpoint.specs.declared.half.Half.{Half}
@@ -74,4 +73,4 @@ with_commit a actions = record a { gate = a.gate + frame_len (length actions); p
 
 -- .. whose run has this length
 abbrev pub turned_half : Account → (run : ℕ) → Account
-turned_half a run = record a { half = other a.half; other_open = true; version = V02; epoch = a.epoch + 1; gate = other_at a + run }
+turned_half a run = record a { half = other a.half; other_open = true; version = newer a.version; epoch = a.epoch + 1; gate = other_at a + run }

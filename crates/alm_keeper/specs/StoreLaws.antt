@@ -1,7 +1,7 @@
 -- For the proofs.
 -- What a store's laws are of a keeper.
-use Rattle.std.specs.Prelude.{◌≡◌, ◌≢◌, ◌≤◌, List, length, ℕ, None, IsSome}
-use Rattle.std.proofs.Common.{refl, sym, subst}
+use Rattle.std.specs.Prelude.{◌≡◌, ◌≢◌, ◌≤◌, true, List, length, ℕ, None, IsSome}
+use Rattle.std.proofs.Common.{refl}
 use Rattle.alm_disk.specs.Device.{AreBytes}
 use Rattle.alm_model.specs.Plant.{Condensed}
 use Rattle.alm_model.specs.Rules.{KeepsRules}
@@ -14,10 +14,8 @@ use Rattle.alm_keeper.specs.declared.stage.Stage.TheVariants.{Idle, Close, Close
 use Rattle.alm_keeper.specs.declared.stage.Work.{Work}
 use Rattle.alm_keeper.specs.declared.stage.Work.TheVariants.{Commit, Checkpoint}
 use Rattle.alm_keeper.specs.Stages.{phase_of}
-use Rattle.alm_codec.specs.declared.version.Version.{Version}
-use Rattle.alm_codec.specs.declared.version.Version.TheVariants.{V02}
-use Rattle.alm_codec.specs.Versions.{AreBorne}
-use Rattle.alm_codec.proofs.Frames.{all_borne}
+use Rattle.alm_codec.specs.Versions.{is_full}
+use Rattle.alm_codec.proofs.Full.{full_bears}
 use Rattle.alm_keeper.specs.Keeper.{KeeperView, HasRoomFor, next, next_by, begun_by}
 use Rattle.alm_store.specs.Pacing.{TakesAny}
 use Rattle.alm_types.specs.declared.action.Action.{Action}
@@ -110,6 +108,6 @@ goes_alone k is = alone_by k k.stage k.work is
 pub goes_open : {D : Type 0} (k : KeeperView D) → IsCheckpointing (phase_of k.stage k.work) → IsSome (going_of k)
 goes_open k is = open_by k k.stage k.work is
 
--- if there is room for the longest frame any batch is taken by a half of version 02
-pub fits_any : {D : Type 0} (k : KeeperView D) (actions : List Action) → k.stored.version ≡ V02 → length actions ≤ most_entries → TakesAny (store_state_of k) → HasRoomFor k.stored actions
-fits_any k actions newest few any = (room_for k.stored.room k.segment (length actions) few any, subst (λ (v : Version). AreBorne v actions) (sym newest) (all_borne actions))
+-- if there is room for the longest frame any batch is taken by a half of a version with all actions
+pub fits_any : {D : Type 0} (k : KeeperView D) (actions : List Action) → is_full k.stored.version ≡ true → length actions ≤ most_entries → TakesAny (store_state_of k) → HasRoomFor k.stored actions
+fits_any k actions newest few any = (room_for k.stored.room k.segment (length actions) few any, full_bears k.stored.version actions newest)

@@ -8,8 +8,8 @@ use alm_types::Batch;
 use std::alloc::Global;
 
 impl<D: Disk + Drop> Store for Keeper<D> {
-    ghost use Rattle.std.specs.Prelude.{◌≡◌, ◌≤◌, ◌+◌, ◌-◌, ◌^◌};
-    ghost use Rattle.alm_codec.specs.declared.version.Version.TheVariants.{V02};
+    ghost use Rattle.std.specs.Prelude.{◌≡◌, true, ◌≤◌, ◌+◌, ◌-◌, ◌^◌};
+    ghost use Rattle.alm_codec.specs.Versions.{is_full};
     ghost use Rattle.alm_keeper.specs.Keeper.{HasRoomFor, next};
     ghost use Rattle.alm_keeper.specs.AsStore.{StandsFor, IsLastEpoch, store_state_of};
     ghost use Rattle.alm_keeper.specs.StoreLaws.{fits_any, goes_alone, goes_open, keeps_rules, rests, stands_for_one};
@@ -26,7 +26,7 @@ impl<D: Disk + Drop> Store for Keeper<D> {
 
     ghost will_take = { λ k actions. HasRoomFor (next k) actions };
 
-    ghost newest = { λ k. k.stored.version ≡ V02 };
+    ghost newest = { λ k. is_full k.stored.version ≡ true };
 
     ghost spent = { IsLastEpoch };
 

@@ -26,13 +26,13 @@ fn bears_each(version: Version, entries: &[Entry]) -> bool
     entries.iter().all(|entry| bears_entry(version, entry))
 }
 
-/// Whether a version has all accepted actions of these entries, as the newest has.
-#[tactic(auto, using(crate::proofs::Borne::all_borne, crate::proofs::Borne::borne_all, crate::proofs::Borne::newest_bears,),)]
+/// Whether a version has all accepted actions of these entries, as all but the first have.
+#[tactic(auto, using(crate::proofs::Borne::all_borne, crate::proofs::Borne::borne_all, crate::proofs::Borne::second_bears, crate::proofs::Borne::third_bears,),)]
 pub fn bears_all(version: Version, entries: &[Entry]) -> bool
     ensures { IsTrue result ↔ AreBorne version (accepted_of entries.now) }
 {
     match version {
         Version::V01 => bears_each(version, entries),
-        Version::V02 => true,
+        Version::V02 | Version::V03 => true,
     }
 }

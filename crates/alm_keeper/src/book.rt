@@ -152,6 +152,7 @@ impl Book {
             return Err(Refused::NotAccepted(place));
         }
         write_frame(
+            self.version,
             self.epoch,
             self.stored.count() + 1,
             &self.actions,
@@ -201,6 +202,7 @@ impl Book {
         let first = self.stored.count() + 1;
         self.store();
         append_frame(
+            self.version.newer(),
             self.epoch + 1,
             first,
             &self.actions,
@@ -223,7 +225,7 @@ impl Book {
         self.gate = self.other_at() + self.run as u64;
         self.half = self.half.other();
         self.other_open = true;
-        self.version = Version::V02;
+        self.version = self.version.newer();
         self.epoch += 1;
         self.copying = false;
         self.stage = Stage::Idle;
@@ -363,7 +365,7 @@ impl Book {
         }
         let head = HalfHead {
             epoch: self.epoch + 1,
-            version: Version::V02,
+            version: self.version.newer(),
             count: self.stored.count(),
         };
         write_half(&self.layout, &head, &self.stored, &mut self.buffer);

@@ -28,9 +28,9 @@
 //! the run as well, with its gate open. The last piece is the one that includes the closed gate. No commit comes between it and
 //! the checkpoint's end.
 //!
-//! A half is of version 01 or 02, and a device has a header of one of them ([`format_as`]). A half of version 01 holds neither
-//! PRIO nor SETP, and each checkpoint makes a half of version 02. So if [`Keeper::takes`] is false because of an action's kind, a
-//! checkpoint comes first.
+//! A half is of version 01, 02 or 03, and a device has a header of one of them ([`format_as`]). A half of version 01 holds neither
+//! PRIO nor SETP. A checkpoint makes a half of version 03 if the one that stands is of version 03, else one of version 02. So if
+//! [`Keeper::takes`] is false because of an action's kind, a checkpoint comes first.
 //!
 //! A gate is one byte, open if it is 0xA5. A commit writes the body of a frame after the first closed gate of the half that
 //! stands; a checkpoint writes its run after the gate of the other half.

@@ -172,6 +172,22 @@ fn the_bytes_of_version_01(rt: HostRuntime) -> Result<(), Fail> {
 }
 
 #[test]
+fn the_bytes_of_version_03(rt: HostRuntime) -> Result<(), Fail> {
+    let alloc = rt.alloc();
+    let Ok(disk) = format_as(alloc, device(alloc, SIZE)?, &table(alloc)?, Version::V03) else {
+        return Err(Fail::new("not formatted"));
+    };
+    let start = [
+        0xa5, 0x41, 0x4c, 0x4d, 0x53, 0x52, 0x56, 0x30, 0x33, 0, 0, 0, 4, 0, 2, 0, 0, 0, 0, 0, 0,
+        0x10, 0x14, 0xa5, 0, 0, 0, 0, 0, 0, 0, 1, 0xfd, 0, 0, 0, 0, 0, 0, 0, 0, 0, 0, 0, 0, 0,
+        0x28, 0x6a,
+    ];
+    assert_eq!(rt; disk.bytes().get(..48), Some(start.as_slice()));
+    assert_eq!(rt; epoch(alloc, disk), Ok(1));
+    Ok(())
+}
+
+#[test]
 fn a_device_that_is_too_small(rt: HostRuntime) -> Result<(), Fail> {
     let alloc = rt.alloc();
     match format(alloc, device(alloc, SIZE - 1)?, &table(alloc)?) {

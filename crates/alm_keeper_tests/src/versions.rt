@@ -1,4 +1,4 @@
-//! A device of version 01 in use by this keeper: its bytes before and after its first checkpoint.
+//! Devices of versions 01 and 03 in use by this keeper: their bytes before and after their first checkpoint.
 
 use crate::choosers::Left;
 use crate::damage::{damaged, opened, put};
@@ -13,9 +13,14 @@ use std::test::Fail;
 
 /// A device of version 01 that stores CLOCK 1000 and VAL 0 800.
 fn first_version(alloc: Global) -> Result<Keeper<MemDisk>, Fail> {
+    of_version(alloc, Version::V01)
+}
+
+/// One of a version that stores the same.
+fn of_version(alloc: Global, version: Version) -> Result<Keeper<MemDisk>, Fail> {
     let first = batch(alloc, 1, &[clock(1000)])?;
     let second = batch(alloc, 2, &[value(0, 800)])?;
-    let disk = match format_as(alloc, device(alloc, SIZE)?, &table(alloc)?, Version::V01) {
+    let disk = match format_as(alloc, device(alloc, SIZE)?, &table(alloc)?, version) {
         Ok(disk) => disk,
         Err(_) => return Err(Fail::new("not formatted")),
     };
@@ -82,5 +87,39 @@ fn a_new_kind_in_an_old_half(rt: HostRuntime) -> Result<(), Fail> {
     let (found, disk) = opened(alloc, disk);
     drop(disk);
     assert_eq!(rt; found, damaged(0, 10_413));
+    Ok(())
+}
+
+#[test]
+fn a_checkpoint_of_version_03(rt: HostRuntime) -> Result<(), Fail> {
+    let alloc = rt.alloc();
+    let next = priority(alloc)?;
+    let mut keeper = of_version(alloc, Version::V03)?;
+    let before = keeper.takes(&next);
+    let copied = copies(&mut keeper);
+    let stored = stores(&mut keeper, &next);
+    let disk = keeper.into_disk();
+    assert_eq!(rt; [before, copied, stored], [true, true, true]);
+    let name = *b"ALMSRV03";
+    assert_eq!(rt; disk.bytes().get(1..9), Some(name.as_slice()));
+    let head = [
+        0xa5, 0, 0, 0, 0, 0, 0, 0, 2, 0xfd, 0, 0, 0, 0, 0, 0, 2, 0, 0, 0, 0, 0, 0, 0x28, 0x6a,
+    ];
+    assert_eq!(rt; disk.bytes().get(14_510..14_535), Some(head.as_slice()));
+    let keeper = open(alloc, disk)?;
+    let found = (keeper.count(), keeper.epoch());
+    drop(keeper);
+    assert_eq!(rt; found, (3, 2));
+    Ok(())
+}
+
+#[test]
+fn a_half_of_version_02_under_version_03(rt: HostRuntime) -> Result<(), Fail> {
+    let alloc = rt.alloc();
+    let mut disk = of_version(alloc, Version::V03)?.into_disk();
+    put(&mut disk, 32, 2);
+    let (found, disk) = opened(alloc, disk);
+    drop(disk);
+    assert_eq!(rt; found, damaged(0, 32));
     Ok(())
 }

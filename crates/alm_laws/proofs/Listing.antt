@@ -10,7 +10,7 @@ use Rattle.alm_state.specs.Rows.{State, is_annunciated, is_suppressed, is_active
 use Rattle.alm_state.specs.declared.core_state.Core.{Core}
 use Rattle.alm_state.specs.declared.core_state.Core.TheVariants.{Normal, Unack, Acked, RtnUnack, LatchUnack, LatchAcked}
 use Rattle.alm_model.specs.Plant.{Condensed}
-use Rattle.alm_model.specs.Lists.{stands_in, is_one, passes, list_of, alarms, moments_in, is_old}
+use Rattle.alm_model.specs.Lists.{stands_in, is_one, passes, list_of}
 use Rattle.alm_model.specs.Look.{look}
 use Rattle.alm_model.specs.Lists as lists
 use Rattle.alm_model.specs.Rising.{RisesByStamp, is_by_stamp}

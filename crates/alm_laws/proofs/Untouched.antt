@@ -1,7 +1,7 @@
 -- What no action names stays.
-use Rattle.std.proofs.Common.{◌≡◌, ◌≢◌, ◌≤◌, ◌<◌, ◌+◌, ℕ, Bool, true, false, List, [], ◌∷◌, length, Option, Some, None, refl, sym, ◌∙◌, ap, subst, arith, inl, inr}
+use Rattle.std.proofs.Common.{◌≡◌, ◌≢◌, ◌≤◌, ◌<◌, ◌+◌, ℕ, false, List, [], ◌∷◌, Option, Some, None, refl, sym, ◌∙◌, ap, subst, arith, inl, inr}
 use Rattle.std.specs.Prelude.{slice_get, Contains}
-use Rattle.std.proofs.lemmas.Option.{same_Some, slice_get_within, slice_get-get_or}
+use Rattle.std.proofs.lemmas.Option.{slice_get_within, slice_get-get_or}
 use Rattle.alm_types.specs.Actions.{alarm_of}
 use Rattle.alm_types.specs.declared.alarm_id.AlarmId.{AlarmId}
 use Rattle.alm_types.specs.declared.attr.Attr.{Attr}
@@ -16,11 +16,11 @@ use Rattle.alm_model.specs.Look.{look, row_report}
 use Rattle.alm_model.specs.Rules.{KeepsRules, IsTimely, AreAdmitted}
 use Rattle.alm_model.specs.Step.{step, run}
 use Rattle.alm_model.proofs.Kept.{there, step-keeps}
-use Rattle.alm_model.proofs.Members.{Has, Contains-from}
+use Rattle.alm_model.proofs.Members.{Contains-from}
 use Rattle.alm_model.proofs.Runs.{run_sizes, run_attrs}
 use Rattle.alm_laws.specs.Untouched.{LeavesAlone, AllLeaveAlone}
-use Rattle.alm_laws.proofs.Meeting.{IsMet, met, unset, attr-left}
-use Rattle.alm_laws.proofs.Moving.{is_clock, Moves, IsNamed, IsEnded, IsKept, alarm-at, own-first, step-moves}
+use Rattle.alm_laws.proofs.Meeting.{met, unset, attr-left}
+use Rattle.alm_laws.proofs.Moving.{is_clock, Moves, alarm-at, own-first, step-moves}
 
 not-named : (i : ℕ) (until : Option ℕ) (a : Action) → is_clock a ≡ false → alarm_of a ≡ i → LeavesAlone i until a → ⊥
 not-named i until (Clock t) timeless named un = absurd (cc timeless)

@@ -1,7 +1,6 @@
 -- What a scanner found in a segment is in it: open frames, and a closed gate after them.
 use Rattle.std.proofs.Common.{◌≡◌, ℕ, zero, suc, ◌+◌, ◌-◌, ◌*◌, ◌<◌, ◌≤◌, Bool, true, false, List, [], ◌∷◌, ◌++◌, length, take, drop, Option, Some, None, Result, Ok, Err, refl, sym, ap, subst, ◌∙◌, append_assoc, arith, length-append, length-drop}
 use Rattle.std.specs.List.{flat_map, AllByRecursion}
-use Rattle.std.specs.Int.{w16, w64, to_be_bytes}
 use Rattle.std.proofs.lemmas.Bool.{eqb-true}
 use Rattle.std.proofs.lemmas.List.{take-append-drop}
 use Rattle.std.proofs.lemmas.List.Elements.{All-from_recursion, All-append, All-nil}
@@ -13,14 +12,15 @@ use Rattle.alm_model.specs.Accept.{refusal}
 use Rattle.alm_model.specs.Step.{step, run}
 use Rattle.alm_model.specs.Rules.{AreAdmitted}
 use Rattle.alm_codec.specs.declared.version.Version.{Version}
-use Rattle.alm_codec.specs.Versions.{IsBorne, AreBorne}
+use Rattle.alm_codec.specs.Versions.{IsBorne, AreBorne, sum_text}
 use Rattle.alm_codec.specs.Actions.{action_text, action_in}
-use Rattle.alm_codec.specs.Frames.{frame_text, head_at}
+use Rattle.alm_codec.specs.Frames.{frame_head, frame_text, head_at}
 use Rattle.alm_codec.specs.Reading.{IsBytes}
 use Rattle.alm_codec.proofs.Bytes.{IsBytes-drop, IsBytes-take}
 use Rattle.alm_codec.proofs.Actions.{borne_action_takes}
 use Rattle.alm_codec.proofs.Numbers.{ok_is, Takes, Takes-then}
-use Rattle.alm_codec.proofs.Frames.{Heads, head_takes}
+use Rattle.alm_codec.proofs.FrameHeads.{Heads, head_takes}
+use Rattle.alm_codec.proofs.Frames.{head_then}
 use Rattle.alm_segment.specs.Course.{Course, Fails, course, is_gate_open}
 use Rattle.alm_segment.specs.Folding.{after_replay, unless_refused, stored_in}
 use Rattle.alm_segment.specs.Journal.{IsJournal}
@@ -83,7 +83,7 @@ pub record Found (version : Version) (q : Condensed) (epoch count : ℕ) (bytes 
   pub frames : List (List Action)
   pub gate : ℕ
   pub tail : List ℕ
-  pub parts : bytes ≡ frames_text epoch count frames ++ gate ∷ tail
+  pub parts : bytes ≡ frames_text version epoch count frames ++ gate ∷ tail
   pub shut : is_gate_open gate ≡ false
   pub left : end.1 ≡ 1 + length tail
   pub are_frames : AreFrames epoch count frames
@@ -114,18 +114,16 @@ both_borne : (version : Version) (xs ys : List Action) → AreBorne version xs �
 both_borne version xs ys p q = All-append (IsBorne version) xs ys p q
 
 -- a frame, and what is found after it
-with_frame : (version : Version) (q : Condensed) (epoch count n : ℕ) (bytes rest : List ℕ) (end : End) → Heads epoch count bytes (n, rest) → (s : Several version q epoch (count + n) n rest end)
+with_frame : (version : Version) (q : Condensed) (epoch count n : ℕ) (bytes rest : List ℕ) (end : End) → Heads version epoch count bytes (n, rest) → (s : Several version q epoch (count + n) n rest end)
     → Found version (run q s.list) epoch (count + n) s.after end → Found version q epoch count (165 ∷ bytes) end
 with_frame version q epoch count n bytes rest end h s f =
-    let head : List ℕ = to_be_bytes w64 epoch ++ to_be_bytes w64 (count + 1) ++ to_be_bytes w16 n in
-    let both = Takes-then bytes head rest (flat_map action_text s.list) s.after h.taken s.taken in
-    let text : bytes ≡ frame_text epoch (count + 1) s.list ++ s.after = both.parts ∙ ap (λ (k : ℕ). (to_be_bytes w64 epoch ++ to_be_bytes w64 (count + 1) ++ to_be_bytes w16 k ++ flat_map action_text s.list) ++ s.after) (sym s.number) in
-    let after : s.after ≡ frames_text epoch (count + length s.list) f.frames ++ f.gate ∷ f.tail = f.parts ∙ ap (λ (k : ℕ). frames_text epoch (count + k) f.frames ++ f.gate ∷ f.tail) (sym s.number) in
+    let text : bytes ≡ frame_text version epoch (count + 1) s.list ++ s.after = (head_then version epoch count bytes n rest s.list s.after h s.number s.taken).parts in
+    let after : s.after ≡ frames_text version epoch (count + length s.list) f.frames ++ f.gate ∷ f.tail = f.parts ∙ ap (λ (k : ℕ). frames_text version epoch (count + k) f.frames ++ f.gate ∷ f.tail) (sym s.number) in
     record {
       frames = s.list ∷ f.frames;
       gate = f.gate;
       tail = f.tail;
-      parts = ap (λ (l : List ℕ). 165 ∷ l) (text ∙ ap (λ (l : List ℕ). frame_text epoch (count + 1) s.list ++ l) after ∙ sym (append_assoc (frame_text epoch (count + 1) s.list) (frames_text epoch (count + length s.list) f.frames) (f.gate ∷ f.tail)));
+      parts = ap (λ (l : List ℕ). 165 ∷ l) (text ∙ ap (λ (l : List ℕ). frame_text version epoch (count + 1) s.list ++ l) after ∙ sym (append_assoc (frame_text version epoch (count + 1) s.list) (frames_text version epoch (count + length s.list) f.frames) (f.gate ∷ f.tail)));
       shut = f.shut;
       left = f.left;
       are_frames = (
@@ -140,16 +138,16 @@ with_frame version q epoch count n bytes rest end h s f =
 abbrev Founds : Version → ℕ → Type 0
 Founds version most = (q : Condensed) (epoch count : ℕ) (bytes : List ℕ) (end : End) → length bytes < most → IsBytes bytes → after_replay q (course version epoch count 0 0 bytes) ≡ Ok end → Found version q epoch count bytes end
 
-on_head : (version : Version) (most : ℕ) → Founds version most → (q : Condensed) (epoch count gate : ℕ) (bytes : List ℕ) (end : End) (r : Result (ℕ × List ℕ) ℕ) → head_at epoch count bytes ≡ r → is_gate_open gate ≡ true → length bytes < most → IsBytes bytes
+on_head : (version : Version) (most : ℕ) → Founds version most → (q : Condensed) (epoch count gate : ℕ) (bytes : List ℕ) (end : End) (r : Result (ℕ × List ℕ) ℕ) → head_at version epoch count bytes ≡ r → is_gate_open gate ≡ true → length bytes < most → IsBytes bytes
     → after_replay q (course version epoch count 0 0 (gate ∷ bytes)) ≡ Ok end → Found version q epoch count (gate ∷ bytes) end
 on_head version most again q epoch count gate bytes end (Err left) read open_gate few fits e = absurd (fails_not left end q _ (no_head version epoch count left (gate ∷ bytes) (omega arith) open_gate read) e)
 on_head version most again q epoch count gate bytes end (Ok x) read open_gate few fits e =
-    let h = head_takes epoch count bytes x fits read in
+    let h = head_takes version epoch count bytes x fits read in
     let s = several version x.0 q epoch (count + x.0) x.1 end h.taken.rest_fits (omega (arith, h.inside)) (sym (ap (after_replay q) (opens version epoch count x.0 (gate ∷ bytes) x.1 (omega arith) open_gate read)) ∙ e) in
     let shorter : length s.after < most = omega (
       arith,
       few,
-      ap length h.taken.parts ∙ length-append (to_be_bytes w64 epoch ++ to_be_bytes w64 (count + 1) ++ to_be_bytes w16 x.0) x.1,
+      ap length h.taken.parts ∙ length-append (frame_head version epoch (count + 1) x.0 ++ sum_text version (frame_head version epoch (count + 1) x.0 ++ take (16 * x.0) x.1)) x.1,
       ap length s.taken.parts ∙ length-append (flat_map action_text s.list) s.after,
     ) in
     let f = again (run q s.list) epoch (count + x.0) s.after end shorter s.taken.rest_fits s.more in
@@ -157,7 +155,7 @@ on_head version most again q epoch count gate bytes end (Ok x) read open_gate fe
 
 on_gate : (version : Version) (most : ℕ) → Founds version most → (q : Condensed) (epoch count gate : ℕ) (bytes : List ℕ) (end : End) (b : Bool) → is_gate_open gate ≡ b → length bytes < most → IsBytes bytes → after_replay q (course version epoch count 0 0 (gate ∷ bytes)) ≡ Ok end → Found version q epoch count (gate ∷ bytes) end
 on_gate version most again q epoch count gate bytes end false shut few fits e = on_closed version q epoch count gate bytes end shut e
-on_gate version most again q epoch count gate bytes end true open_gate few fits e = on_head version most again q epoch count gate bytes end (head_at epoch count bytes) refl open_gate few fits e
+on_gate version most again q epoch count gate bytes end true open_gate few fits e = on_head version most again q epoch count gate bytes end (head_at version epoch count bytes) refl open_gate few fits e
 
 found_in : (version : Version) (most : ℕ) → Founds version most
 found_in version zero q epoch count bytes end few fits e = absurd (omega (arith, few))

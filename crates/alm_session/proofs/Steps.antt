@@ -9,7 +9,6 @@ use Rattle.alm_types.specs.declared.want.Want.{Want}
 use Rattle.alm_model.specs.Plant.{Condensed}
 use Rattle.alm_lines.specs.declared.line.Line.{Line}
 use Rattle.alm_lines.specs.Stream.{held_behind}
-use Rattle.alm_desk.specs.Answers.{verdict_reply}
 use Rattle.alm_board.specs.Fronts.{IsFront}
 use Rattle.alm_session.specs.Intakes.{Untaken, lines_from, lines_in, open_in}
 use Rattle.alm_session.specs.Wires.{WireInput, Gives}

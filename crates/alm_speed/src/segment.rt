@@ -38,7 +38,7 @@ fn segment(alloc: Global) -> Result<Vec<u8>> {
         if actions.is_empty() || actions.len() > 256 || body.len() < 19 + 16 * actions.len() {
             return Err(anyhow!("frame"));
         }
-        write_frame_body(1, first, &actions, &mut body);
+        write_frame_body(Version::V02, 1, first, &actions, &mut body);
         bytes.push(OPEN_GATE)?;
         bytes.extend_from_slice(body.get(..4114).ok_or_else(|| anyhow!("body"))?)?;
         first = first.wrapping_add(256);

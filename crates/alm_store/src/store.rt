@@ -46,7 +46,7 @@ pub trait Store: Drop {
     /// It does when the work that is under way is done.
     ghost will_take: { Self → List Action → Type 0 };
 
-    /// The half that stands is of the newest version: it may hold every action.
+    /// The half that stands is of a version that has every action.
     ghost newest: { Self → Type 0 };
 
     /// A device is at the last epoch.
@@ -209,7 +209,7 @@ pub trait Store: Drop {
 
     ghost opened: { (store : Self) → IsCheckpointing (state store).phase → IsSome (state store).going };
 
-    /// If there is room for the longest frame any batch is taken by a half of the newest version.
+    /// If there is room for the longest frame any batch is taken by a half of a version that has every action.
     ghost fits: { (store : Self) (actions : List Action) → newest store →
         length actions ≤ most_entries → TakesAny (state store) → takes store actions };
 

@@ -5,7 +5,8 @@ use Rattle.std.specs.List.{AllByRecursion}
 use Rattle.std.specs.Int.Bits.{xor_assoc, xor_zero_r, xor_self}
 use Rattle.std.proofs.lemmas.Nat.{xor_block, xor_comm, xor_lt}
 use Rattle.std.proofs.lemmas.List.Elements.{recursion_from_All}
-use Rattle.alm_sum.specs.Crc.{polynomial, subtracted, shift, shifts, after_byte, after_bytes, checksum_of, IsByte, AreBytes}
+use Rattle.alm_sum.specs.Crc.{polynomial, subtracted, shift, shifts, register_after_byte, register_after_bytes, checksum_of}
+use Rattle.alm_sum.proofs.Bytes.{IsByte, AreBytes}
 use Rattle.alm_sum.proofs.Shifts.{parity, bytes_more}
 use Rattle.alm_sum.proofs.Packed.{packed, numbers, eights, together, packed_lt, packed_same}
 
@@ -74,17 +75,17 @@ eights_same (suc n) a b la lb e = shifts_same 8 a b la lb (eights_same n (shifts
 with_byte : (c byte : ℕ) → c < 2 ^ 32 → byte < 256 → bit_xor c byte < 2 ^ 32
 with_byte c byte lc lb = xor_lt 32 c byte lc (omega (arith, lb))
 
-pub after_lt : (c : ℕ) (bytes : List ℕ) → c < 2 ^ 32 → AllByRecursion IsByte bytes → after_bytes c bytes < 2 ^ 32
+pub after_lt : (c : ℕ) (bytes : List ℕ) → c < 2 ^ 32 → AllByRecursion IsByte bytes → register_after_bytes c bytes < 2 ^ 32
 after_lt c [] lt are = lt
-after_lt c (byte ∷ bytes) lt are = after_lt (after_byte c byte) bytes (shifts_lt 8 (bit_xor c byte) (with_byte c byte lt are.0)) are.1
+after_lt c (byte ∷ bytes) lt are = after_lt (register_after_byte c byte) bytes (shifts_lt 8 (bit_xor c byte) (with_byte c byte lt are.0)) are.1
 
-after_same : (c d : ℕ) (bytes : List ℕ) → c < 2 ^ 32 → d < 2 ^ 32 → AllByRecursion IsByte bytes → after_bytes c bytes ≡ after_bytes d bytes → c ≡ d
+after_same : (c d : ℕ) (bytes : List ℕ) → c < 2 ^ 32 → d < 2 ^ 32 → AllByRecursion IsByte bytes → register_after_bytes c bytes ≡ register_after_bytes d bytes → c ≡ d
 after_same c d [] lc ld are e = e
 after_same c d (byte ∷ bytes) lc ld are e =
     let c' = with_byte c byte lc are.0 in
     let d' = with_byte d byte ld are.0 in
     xor_right c d byte (shifts_same 8 (bit_xor c byte) (bit_xor d byte) c' d'
-    (after_same (after_byte c byte) (after_byte d byte) bytes (shifts_lt 8 (bit_xor c byte) c') (shifts_lt 8 (bit_xor d byte) d') are.1 e))
+    (after_same (register_after_byte c byte) (register_after_byte d byte) bytes (shifts_lt 8 (bit_xor c byte) c') (shifts_lt 8 (bit_xor d byte) d') are.1 e))
 
 word_lt : (n : ℕ) → n ≤ 4 → numbers n ≤ 2 ^ 32
 word_lt zero le = omega arith
@@ -96,7 +97,7 @@ word_lt (suc (suc (suc (suc (suc n))))) le = absurd (omega (arith, le))
 
 -- few bytes that make the same of a register are the same
 pub few_same : (c : ℕ) (x y : List ℕ) → c < 2 ^ 32 → length x ≡ length y → length x ≤ 4 → AllByRecursion IsByte x → AllByRecursion IsByte y
-    → after_bytes c x ≡ after_bytes c y → x ≡ y
+    → register_after_bytes c x ≡ register_after_bytes c y → x ≡ y
 few_same c x y lc long few p q e =
     let lx : packed x < 2 ^ 32 = omega (arith, packed_lt x p, word_lt (length x) few) in
     let ly : packed y < 2 ^ 32 = omega (arith, packed_lt y q, word_lt (length y) (omega (arith, long, few))) in
@@ -110,10 +111,10 @@ pub few_changes : (front x y back : List ℕ) → AreBytes front → AreBytes ba
     → checksum_of (front ++ x ++ back) ≡ checksum_of (front ++ y ++ back) → x ≡ y
 few_changes front x y back in_front behind p q long few e =
     let are : (l : List ℕ) → AreBytes l → AllByRecursion IsByte l = recursion_from_All IsByte in
-    let c : ℕ = after_bytes 0xFFFFFFFF front in
+    let c : ℕ = register_after_bytes 0xFFFFFFFF front in
     let lc : c < 2 ^ 32 = after_lt 0xFFFFFFFF front (omega arith) (are front in_front) in
-    let whole = xor_right (after_bytes 0xFFFFFFFF (front ++ x ++ back)) (after_bytes 0xFFFFFFFF (front ++ y ++ back)) 0xFFFFFFFF e in
-    let apart : (l : List ℕ) → after_bytes 0xFFFFFFFF (front ++ l ++ back) ≡ after_bytes (after_bytes c l) back =
-    λ l. bytes_more 0xFFFFFFFF (front ++ l) back ∙ ap (λ r. after_bytes r back) (bytes_more 0xFFFFFFFF front l) in
+    let whole = xor_right (register_after_bytes 0xFFFFFFFF (front ++ x ++ back)) (register_after_bytes 0xFFFFFFFF (front ++ y ++ back)) 0xFFFFFFFF e in
+    let apart : (l : List ℕ) → register_after_bytes 0xFFFFFFFF (front ++ l ++ back) ≡ register_after_bytes (register_after_bytes c l) back =
+    λ l. bytes_more 0xFFFFFFFF (front ++ l) back ∙ ap (λ r. register_after_bytes r back) (bytes_more 0xFFFFFFFF front l) in
     few_same c x y lc long few (are x p) (are y q)
-    (after_same (after_bytes c x) (after_bytes c y) back (after_lt c x lc (are x p)) (after_lt c y lc (are y q)) (are back behind) (sym (apart x) ∙ whole ∙ apart y))
+    (after_same (register_after_bytes c x) (register_after_bytes c y) back (after_lt c x lc (are x p)) (after_lt c y lc (are y q)) (are back behind) (sym (apart x) ∙ whole ∙ apart y))

@@ -1,3 +1,4 @@
+pub mod Bytes
 pub mod Changes
 pub mod Packed
 pub mod Shifts

@@ -3,7 +3,8 @@ use Rattle.std.proofs.Common.{◌≡◌, ℕ, zero, suc, ◌+◌, ◌*◌, ◌<�
 use Rattle.std.specs.Prelude.{bit_xor}
 use Rattle.std.specs.List.{AllByRecursion}
 use Rattle.std.specs.Int.Bits.{xor_assoc, xor_zero_r}
-use Rattle.alm_sum.specs.Crc.{IsByte, shifts, after_byte, after_bytes}
+use Rattle.alm_sum.specs.Crc.{shifts, register_after_byte, register_after_bytes}
+use Rattle.alm_sum.proofs.Bytes.{IsByte}
 use Rattle.alm_sum.proofs.Shifts.{shifts_linear, eight_up, low_byte}
 
 -- bytes as one number, the first one lowest
@@ -20,10 +21,10 @@ eights (suc n) c = eights n (shifts 8 c)
 pull : (x m : ℕ) → bit_xor (shifts 8 x) m ≡ shifts 8 (bit_xor x (m * 256))
 pull x m = ap (bit_xor (shifts 8 x)) (sym (eight_up m)) ∙ sym (shifts_linear 8 x (m * 256))
 
-pub together : (c : ℕ) (bytes : List ℕ) → after_bytes c bytes ≡ eights (length bytes) (bit_xor c (packed bytes))
+pub together : (c : ℕ) (bytes : List ℕ) → register_after_bytes c bytes ≡ eights (length bytes) (bit_xor c (packed bytes))
 together c [] = sym (xor_zero_r c)
 together c (byte ∷ bytes) =
-    together (after_byte c byte) bytes
+    together (register_after_byte c byte) bytes
     ∙ ap (eights (length bytes)) (pull (bit_xor c byte) (packed bytes) ∙ ap (shifts 8) (xor_assoc c byte (packed bytes * 256)))
 
 -- how many numbers n bytes make

@@ -4,7 +4,7 @@ use Rattle.std.specs.Prelude.{bit_xor}
 use Rattle.std.specs.Int.Bits.{xor_assoc, xor_zero_l, xor_zero_r}
 use Rattle.std.proofs.lemmas.Nat.{xor_block, xor_comm, xor_lt}
 use Rattle.std.proofs.Math.Seq.{take-suc}
-use Rattle.alm_sum.specs.Crc.{subtracted, shift, shifts, after_byte, after_bytes}
+use Rattle.alm_sum.specs.Crc.{subtracted, shift, shifts, register_after_byte, register_after_bytes}
 
 pub parity : (n : ℕ) → (n % 2 ≡ 0) ⊎ (n % 2 ≡ 1)
 parity n = by_rest (n % 2) (omega arith)
@@ -92,7 +92,7 @@ low_byte a m lt =
     same = omega arith
 
 -- a byte that goes into the register meets its lowest eight bits, and these alone are looked up
-pub byte_step : (c byte : ℕ) → byte < 256 → after_byte c byte ≡ bit_xor (c / 256) (shifts 8 (bit_xor (c % 256) byte))
+pub byte_step : (c byte : ℕ) → byte < 256 → register_after_byte c byte ≡ bit_xor (c / 256) (shifts 8 (bit_xor (c % 256) byte))
 byte_step c byte lt =
     let c_is : c ≡ c / 256 * 256 + c % 256 = omega arith in
     let apart : c ≡ bit_xor (c / 256 * 256) (c % 256) =
@@ -119,12 +119,12 @@ remainder_at (suc n) from (suc i) lt =
 
 -- ---- bytes one after the other
 
-pub bytes_more : (c : ℕ) (front back : List ℕ) → after_bytes c (front ++ back) ≡ after_bytes (after_bytes c front) back
+pub bytes_more : (c : ℕ) (front back : List ℕ) → register_after_bytes c (front ++ back) ≡ register_after_bytes (register_after_bytes c front) back
 bytes_more c [] back = refl
-bytes_more c (byte ∷ front) back = bytes_more (after_byte c byte) front back
+bytes_more c (byte ∷ front) back = bytes_more (register_after_byte c byte) front back
 
-pub byte_more : (c : ℕ) (bytes : List ℕ) (i byte : ℕ) → i < length bytes → get_or bytes i 0 ≡ byte → after_bytes c (take (i + 1) bytes) ≡ after_byte (after_bytes c (take i bytes)) byte
+pub byte_more : (c : ℕ) (bytes : List ℕ) (i byte : ℕ) → i < length bytes → get_or bytes i 0 ≡ byte → register_after_bytes c (take (i + 1) bytes) ≡ register_after_byte (register_after_bytes c (take i bytes)) byte
 byte_more c bytes i byte lt is =
     let one : i + 1 ≡ suc i = omega arith in
-    ap (λ n. after_bytes c (take n bytes)) one ∙ ap (after_bytes c) (take-suc bytes i 0 lt) ∙ bytes_more c (take i bytes) (get_or bytes i 0 ∷ [])
-    ∙ ap (after_byte (after_bytes c (take i bytes))) is
+    ap (λ n. register_after_bytes c (take n bytes)) one ∙ ap (register_after_bytes c) (take-suc bytes i 0 lt) ∙ bytes_more c (take i bytes) (get_or bytes i 0 ∷ [])
+    ∙ ap (register_after_byte (register_after_bytes c (take i bytes))) is

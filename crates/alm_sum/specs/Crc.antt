@@ -1,6 +1,6 @@
 -- CRC-32C: the remainder by the polynomial 1EDC6F41 (hex), bit by bit. A register holds the remainder with its lowest power in
 -- the highest bit, so that a shift to the right is a multiplication by x.
-use Rattle.std.specs.Prelude.{ℕ, zero, suc, ◌<◌, ◌/◌, ◌%◌, List, [], ◌∷◌, All, bit_xor}
+use Rattle.std.specs.Prelude.{ℕ, zero, suc, ◌/◌, ◌%◌, List, [], ◌∷◌, bit_xor}
 
 -- the polynomial without its highest power
 abbrev pub polynomial : ℕ
@@ -20,19 +20,13 @@ shifts zero register = register
 shifts (suc n) register = shifts n (shift register)
 
 -- the register after a byte, of which the lowest bit comes first
-abbrev pub after_byte : ℕ → ℕ → ℕ
-after_byte register byte = shifts 8 (bit_xor register byte)
+abbrev pub register_after_byte : ℕ → ℕ → ℕ
+register_after_byte register byte = shifts 8 (bit_xor register byte)
 
-abbrev pub after_bytes : ℕ → List ℕ → ℕ
-after_bytes register [] = register
-after_bytes register (byte ∷ bytes) = after_bytes (after_byte register byte) bytes
+abbrev pub register_after_bytes : ℕ → List ℕ → ℕ
+register_after_bytes register [] = register
+register_after_bytes register (byte ∷ bytes) = register_after_bytes (register_after_byte register byte) bytes
 
 -- the checksum of bytes: the register begins with ones, and is inverted at the end
 abbrev pub checksum_of : List ℕ → ℕ
-checksum_of bytes = bit_xor (after_bytes 0xFFFFFFFF bytes) 0xFFFFFFFF
-
-abbrev pub IsByte : ℕ → Type 0
-IsByte n = n < 256
-
-abbrev pub AreBytes : List ℕ → Type 0
-AreBytes bytes = All IsByte bytes
+checksum_of bytes = bit_xor (register_after_bytes 0xFFFFFFFF bytes) 0xFFFFFFFF

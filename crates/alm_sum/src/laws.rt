@@ -1,20 +1,21 @@
 //! Laws of checksums: each function does nothing, and its contract is the law.
 
-ghost use Rattle.std.specs.Prelude.{◌≡◌, ◌≤◌, ℕ, List, [], ◌∷◌, ◌++◌, length, codes, replicate, reverse};
-ghost use Rattle.alm_sum.specs.Crc.{AreBytes, IsByte, checksum_of};
+ghost use Rattle.std.specs.Prelude.{◌≡◌, ◌<◌, ◌≤◌, ℕ, List, All, [], ◌∷◌, ◌++◌, length, codes, replicate, reverse};
+ghost use Rattle.alm_sum.specs.Crc.{checksum_of};
 ghost use Rattle.alm_sum.specs.Known.{rising};
 
 /// Of two texts that differ in one byte the checksums differ.
 pub fn one_change_is_seen()
-    ensures { (front back : List ℕ) (a b : ℕ) → AreBytes front → AreBytes back →
-        IsByte a → IsByte b →
+    ensures { (front back : List ℕ) (a b : ℕ) → All (λ n. n < 256) front →
+        All (λ n. n < 256) back → a < 256 → b < 256 →
         checksum_of (front ++ a ∷ back) ≡ checksum_of (front ++ b ∷ back) → a ≡ b }
 {}
 
-/// .. and of two that differ within four neighbouring bytes.
+/// Of two texts of one length that differ within four neighbouring bytes alone the checksums differ.
 pub fn four_changes_are_seen()
-    ensures { (front old new back : List ℕ) → AreBytes front → AreBytes back →
-        AreBytes old → AreBytes new → length old ≡ length new → length old ≤ 4 →
+    ensures { (front old new back : List ℕ) → All (λ n. n < 256) front →
+        All (λ n. n < 256) back → All (λ n. n < 256) old → All (λ n. n < 256) new →
+        length old ≡ length new → length old ≤ 4 →
         checksum_of (front ++ old ++ back) ≡ checksum_of (front ++ new ++ back) → old ≡ new }
 {}
 

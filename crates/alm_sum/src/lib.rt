@@ -1,8 +1,8 @@
 //! The checksum of bytes: CRC-32C (Castagnoli), as iSCSI has it (RFC 3720, 12.1).
 //!
 //! ```text
-//! let told = checksum(text);
-//! let told = register_after(register_after(START, front), back) ^ START;
+//! let sum = checksum(text);
+//! let sum = register_after(register_after(START, front), back) ^ START;
 //! ```
 //!
 //! A checksum is a number of 32 bits. The register that makes it begins with ones, takes the bytes in their order, each from its
@@ -13,7 +13,7 @@
 //! a table. Of two texts that differ within four neighbouring bytes alone the checksums differ. Not covered: texts that differ in
 //! more places, or in length; these may have one checksum. It is no signature: whoever changes a text can make its checksum too.
 //!
-//! It is for the texts of a device in `alm_summed`. No version of the format has checksums yet. No call here takes memory.
+//! It is for the texts of version 03 in `alm_codec`. No call here takes memory.
 //!
 //! Proved:
 //! - the checksum that is looked up is the one that is divided bit by bit; a change within four neighbouring bytes changes it

@@ -1,7 +1,7 @@
 //! The register of a checksum.
 
 ghost use Rattle.std.specs.Prelude.{◌≡◌};
-ghost use Rattle.alm_sum.specs.Crc.{after_byte, after_bytes, checksum_of};
+ghost use Rattle.alm_sum.specs.Crc.{register_after_byte, register_after_bytes, checksum_of};
 
 use crate::table::remainder;
 
@@ -10,14 +10,14 @@ pub const START: u32 = 0xFFFF_FFFF;
 
 /// The register after one byte more.
 fn step(register: u32, byte: u8) -> u32
-    ensures { result ≡ after_byte register byte }
+    ensures { result ≡ register_after_byte register byte }
 {
     (register >> 8) ^ remainder((register % 256) as u8 ^ byte)
 }
 
 /// The register after these bytes more.
 pub fn register_after(register: u32, bytes: &[u8]) -> u32
-    ensures { result ≡ after_bytes register bytes.now }
+    ensures { result ≡ register_after_bytes register bytes.now }
 {
     let mut register = register;
     for byte in bytes {

@@ -6,10 +6,10 @@ use std::sync::atomic::{AtomicBool, AtomicU64, Ordering};
 use std::thread;
 
 /// How often it is checked whether it may continue.
-const TURNS: u64 = 1_000_000;
+const TURNS: u64 = 20_000_000;
 
 /// Holds the first sync after the first take until another slot's request was taken and another slot has looked, since it began.
-/// After a million turns, each of which yields once, the sync fails.
+/// After 20 million turns, each of which yields once, the sync fails.
 #[derive(Drop)]
 pub struct Gate {
     // The slot whose request was taken first; 0 if none was.

@@ -9,6 +9,7 @@ METRICS: tuple[tuple[str, str, str, Callable[[Watch], int]], ...] = (
     ("connected", "gauge", "Whether the list has the plant's server.", lambda watch: int(not watch.trouble())),
     ("rows_compared_total", "counter", "Rows that were held against the server's.", lambda watch: watch.check.compared),
     ("rows_denied", "gauge", "Alarms whose drawn row isn't the server's.", lambda watch: len(watch.check.denied)),
+    ("mixed_looks_total", "counter", "Looks that weren't all of one count.", lambda watch: watch.mixed_looks),
 )
 
 

@@ -55,6 +55,7 @@ class Watch:
         self.client: Optional[ServerClient] = None
         self.moment = 0
         self.floods: list[Flood] = []
+        self.mixed_looks = 0
         self.values: dict[int, int] = {}
         self.head: dict[str, Any] = {}
         self.check = DrawnCheck()
@@ -110,6 +111,7 @@ class Watch:
             self.read_plant(client)
         elif is_new or known(self.plant).count != overview.count:
             self.take_news(client, known(self.plant), is_new)
+        self.mixed_looks += known(self.plant).is_mixed
         self.hold_rows(client, known(self.plant))
         self.shown.heard()
 
@@ -130,7 +132,7 @@ class Watch:
 
     def read_plant(self, client: Client) -> None:
         """Begins with the connection's plant: all of its rows, and what its server remembers."""
-        plant = self.plant = FollowedPlant(self.shown.plant.table.alarms)
+        plant = self.plant = FollowedPlant(self.shown.plant.table.alarms, self.shown.plant.table.areas)
         self.era, self.values = None, {}
         self.begin(whole=True)
         plant.begin(client)
@@ -142,7 +144,7 @@ class Watch:
                 self.take(entry)
                 self.note_event(entry, entry.action.alarm, None, None)
         del self.events[:-EVENTS]
-        self.floods = client.floods(self.shown.plant.table.areas)
+        self.floods = plant.floods
         self.era = secrets.token_hex(8)
 
     def take_news(self, client: Client, plant: FollowedPlant, is_new: bool) -> None:
@@ -160,7 +162,7 @@ class Watch:
             self.whole = True
         if not is_known:
             self.events.append([plant.count, self.moment, None, "GAP", plant.count - last, *[None] * 5])
-        self.take_floods(client.floods(len(self.floods)))
+        self.take_floods(plant.floods)
 
     def take_happenings(self, news: Happenings) -> None:
         """Takes actions, and the lines of the journal that they make. A state is known before the first and behind the
@@ -170,6 +172,7 @@ class Watch:
         shown = {alarm: row.shown for alarm, row in before.items()}
         self.changed.update(before)
         for entry, alarms in news.entries:
+            self.moment = entry.moment
             self.take(entry)
             self.check.leave_out(alarms)
             for alarm in alarms:
@@ -228,7 +231,7 @@ class Watch:
             head["held"] = self.desks.holders()
         if plant:
             floods = [[flood.window, int(flood.flooded)] for flood in self.floods]
-            head |= {"now": self.moment, "count": plant.count, "floods": floods}
+            head |= {"now": self.moment, "count": plant.count, "mixed": plant.is_mixed, "floods": floods}
         return head
 
     def denied(self) -> list[str]:

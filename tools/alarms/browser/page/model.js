@@ -45,6 +45,7 @@ export const DAY = 86400;
  * @property {number} still seconds for which the plant's clock hasn't moved
  * @property {string} fault why notes aren't kept
  * @property {string[]} denied the tags of the alarms whose row the server denies
+ * @property {boolean} [mixed] whether some rows or floods are newer than the others
  * @property {[string, number, string][]} [held] of each position who has it, since when, and what was said then
  * @property {number} [now] the plant's moment
  * @property {[number, number][]} [floods] of each area its annunciations in ten minutes, and whether it is in flood
@@ -61,6 +62,7 @@ export const DAY = 86400;
  * @property {Event[]} events
  * @property {[number, number]} counts how many nobody has acknowledged, of how many
  * @property {boolean} isOld
+ * @property {number} mixedAt when it was told last that not all of it is of one moment
  * @property {boolean} isDetailed whether operators are told anything beside the table
  * @property {Head} head
  */
@@ -110,7 +112,7 @@ export const DAY = 86400;
 export function newPlant(name, place) {
   const head = {trouble: w("the plant is being read"), age: 0, still: 0, fault: "", denied: []};
   return {name, place, era: null, areas: [], table: [], rows: [], events: [], counts: [0, 0], isOld: false,
-    isDetailed: false, head};
+    mixedAt: -Infinity, isDetailed: false, head};
 }
 
 /** The id of a plant's alarm. */

@@ -50,6 +50,7 @@ function take(/** @type {any} */ news, /** @type {boolean} */ isWhole) {
   for (const told of news.events) plant.events.push(readEvent(told, plant));
   plant.events.splice(0, plant.events.length - MOST_EVENTS);
   plant.head = news.head;
+  if (news.head.mixed) plant.mixedAt = performance.now();
   hear();
   drawTrouble();
   touch();

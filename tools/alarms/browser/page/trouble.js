@@ -12,6 +12,8 @@ import {span} from "./words.js";
 
 // Milliseconds of silence that are a loss, and seconds without an answer of the server after which the list may be old.
 export const SILENCE = 1500, OLD = 1;
+// Milliseconds for which it is said that not all is of one moment: as long as it takes to read.
+const READ = 2000;
 
 /** Why nothing is heard of alm_browser itself; empty while something is. */
 function silentSince() {
@@ -49,6 +51,12 @@ function faults(/** @type {Plant} */ plant, /** @type {boolean} */ isOld) {
   return said.map(text => of_(plant, text));
 }
 
+/** What there is to say where not all of a plant is of one moment; nothing where it is. */
+function mixture(/** @type {Plant} */ plant) {
+  const isMixed = performance.now() - plant.mixedAt < READ;
+  return isMixed ? of_(plant, t("Not all of this is of one moment")) : "";
+}
+
 /** Says what is wrong, and greys what may be old. */
 export function drawTrouble() {
   const silent = silentSince(), lines = [silent];
@@ -62,6 +70,7 @@ export function drawTrouble() {
     plant.isOld = isOld;
   }
   lines.push(untaken());
+  put($("mixed"), plants.map(mixture).filter(Boolean).join(". "));
   put($("trouble"), lines.filter(Boolean).join(". "));
   $("trouble").hidden = !$("trouble").textContent;
   drawConnection();

@@ -1,4 +1,4 @@
-use Rattle.std.proofs.Common.{◌≡◌, ◌≤◌, ◌+◌, ◌-◌, ℕ, List, Bool, true, false, Option, Some, None, length, ap, refl, sym, subst, ◌∙◌, arith}
+use Rattle.std.proofs.Common.{◌≡◌, ◌≤◌, ◌+◌, ◌-◌, ℕ, List, true, false, Option, length, ap, refl, sym, ◌∙◌, arith}
 use Rattle.std.specs.Prelude.{unwrap_or}
 use Rattle.alm_types.specs.declared.logged_action.LoggedAction.{LoggedAction}
 use Rattle.alm_model.specs.Plant.{Condensed}
@@ -9,7 +9,6 @@ use Rattle.std.proofs.lemmas.List.{length-map}
 use Rattle.alm_types.specs.declared.event.Event.{Event}
 use Rattle.alm_events.specs.Events.{most_kept, last, events_from, asked_after, is_remembered, told_after}
 use Rattle.alm_events.proofs.Recalling.{recalls, count_within, oldest_kept, remembered_if, forgotten_if}
-use Rattle.alm_board.specs.Fronts.{IsFront}
 use Rattle.alm_board.proofs.FrontLaws.{front_of_prefix}
 use Rattle.alm_moments.proofs.Fronts.{prefix_shorter}
 use Rattle.alm_shared.proofs.shared_recall.recall_at.Goals as goal

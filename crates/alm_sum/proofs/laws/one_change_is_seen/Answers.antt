@@ -1,6 +1,7 @@
 use Rattle.std.proofs.Common.{◌≡◌, ℕ, [], ◌∷◌, ◌++◌, sym, ◌∙◌, ap, append_assoc, arith}
 use Rattle.std.proofs.lemmas.List.Elements.{All-from_recursion}
-use Rattle.alm_sum.specs.Crc.{IsByte, checksum_of}
+use Rattle.alm_sum.specs.Crc.{checksum_of}
+use Rattle.alm_sum.proofs.Bytes.{IsByte}
 use Rattle.alm_sum.proofs.Changes.{few_changes}
 use Rattle.alm_sum.proofs.laws.one_change_is_seen.Goals as goal
 

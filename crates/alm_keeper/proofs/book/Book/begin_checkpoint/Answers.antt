@@ -1,5 +1,4 @@
 use Rattle.std.proofs.Common.{true, ◌≡◌, ◌+◌, ◌^◌, ◌<◌, ◌++◌, ◌∷◌, [], ℕ, take, arith, refl, sym, ap, subst, ◌∙◌}
-use Rattle.alm_codec.specs.declared.version.Version.TheVariants.{V02}
 use Rattle.alm_codec.specs.Image.{image_text}
 use Rattle.alm_checkpoint.specs.Headers.{half_head_text}
 use Rattle.alm_checkpoint.specs.Layouts.{image_size}
@@ -25,7 +24,7 @@ returns-clause-copies c =
       actions = refl;
       copying = refl;
       run = run;
-      text = ap (λ (n : ℕ). take n items) run ∙ c.write_half.ensures.text ∙ ap (λ (n : ℕ). half_head_text b.layout V02 (b.epoch + 1) n ++ image_text b.stored ++ 0 ∷ []) c.count.ensures;
+      text = ap (λ (n : ℕ). take n items) run ∙ c.write_half.ensures.text ∙ (λ i. half_head_text b.layout (c.newer.ensures i) (b.epoch + 1) (c.count.ensures i) ++ image_text b.stored ++ 0 ∷ []);
       out = refl;
       written = refl;
     }

@@ -1,5 +1,4 @@
-use Rattle.std.proofs.Common.{◌≡◌, ◌++◌, List, ap, sym, subst, ◌∙◌, length, drop, length-append, length-drop, arith}
-use Rattle.alm_types.specs.declared.logged_action.LoggedAction.{LoggedAction}
+use Rattle.std.proofs.Common.{◌≡◌, ◌++◌, ap, sym, subst, ◌∙◌, length, drop, length-append, length-drop, arith}
 use Rattle.alm_model.specs.Judging.{logged_actions, logged_of}
 use Rattle.alm_model.specs.Rules.{AllAdmitted}
 use Rattle.alm_model.specs.Step.{run}

@@ -1,10 +1,10 @@
-use Rattle.std.proofs.Common.{◌≡◌, ◌++◌, List, [], length, drop, Ok, Err, Result, ap, sym, subst, ◌∙◌, arith}
+use Rattle.std.proofs.Common.{◌≡◌, ◌++◌, List, [], length, drop, Ok, Err, Result, ap, sym, ◌∙◌, arith}
 use Rattle.std.specs.Prelude.{OnOk}
 use Rattle.std.proofs.lemmas.List.{drop_all}
 use Rattle.alm_types.specs.declared.logged_action.LoggedAction.{LoggedAction}
-use Rattle.alm_model.specs.Judging.{accepted_of, logged_actions, logged_of}
+use Rattle.alm_model.specs.Judging.{logged_actions, logged_of}
 use Rattle.alm_model.proofs.Legal.{actions_append, actions_logged}
-use Rattle.alm_shared.specs.SharedBoards.{board_shown, board_pending}
+use Rattle.alm_shared.specs.SharedBoards.{board_shown}
 use Rattle.alm_shared.proofs.board.PublisherShownPlantAppendStepFrontActionHistoryPublishMoments.publish.Goals as goal
 
 on_ok : {A E : Type 0} (r : Result A E) (X Y : Type 0) → (X → Y) → OnOk r X → OnOk r Y

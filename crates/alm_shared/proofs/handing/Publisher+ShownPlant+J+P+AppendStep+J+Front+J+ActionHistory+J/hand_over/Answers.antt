@@ -1,4 +1,4 @@
-use Rattle.std.proofs.Common.{◌≡◌, ◌++◌, ◌-◌, List, length, drop, ap, subst, ◌∙◌, sym, refl, arith, length-append}
+use Rattle.std.proofs.Common.{◌≡◌, ◌++◌, ◌-◌, length, drop, ap, subst, ◌∙◌, sym, refl, arith, length-append}
 use Rattle.alm_model.specs.Judging.{logged_actions, logged_of}
 use Rattle.alm_model.proofs.Legal.{actions_append, actions_logged}
 use Rattle.alm_moments.specs.Moments.{AreHeld}

@@ -1,4 +1,4 @@
-use Rattle.std.proofs.Common.{rules, ◌⊎◌, ◌++◌, ◌∙◌, ℕ, List, length, refl, ap, sym, subst, arith}
+use Rattle.std.proofs.Common.{rules, ◌⊎◌, ◌++◌, ◌∙◌, ℕ, List, length, ap, sym, subst, arith}
 use Rattle.std.proofs.Props.{props}
 use Rattle.std.proofs.Math.Logic.{∥∥₁_elim, ∥∥₁_map}
 use Rattle.alm_disk.specs.Device.{IsImage}
