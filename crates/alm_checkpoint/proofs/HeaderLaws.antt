@@ -1,22 +1,24 @@
 -- The texts of headers and heads are read as what was written, and what is read is encoded so.
-use Rattle.std.proofs.Common.{◌≡◌, ℕ, ◌+◌, ◌-◌, ◌^◌, ◌<◌, ◌≤◌, Bool, true, false, ◌&&◌, cond, eqb, leb, List, [], ◌++◌, Option, Some, None, Ok, inl, inr, refl, sym, ap, subst, ◌∙◌, arith}
+use Rattle.std.proofs.Common.{◌≡◌, ℕ, ◌+◌, ◌-◌, ◌^◌, ◌<◌, ◌≤◌, Bool, true, false, ◌&&◌, cond, eqb, leb, List, [], ◌++◌, Option, Some, None, Ok, inl, inr, refl, sym, ap, subst, ◌∙◌, arith, length, length-append}
 use Rattle.std.specs.Prelude.{bytes_eq}
-use Rattle.std.specs.Int.{w16, w32, w64}
+use Rattle.std.specs.Int.{w16, w32, w64, to_be_bytes}
 use Rattle.std.proofs.lemmas.Bool.{eqb-true, leb-true, le-leb, eq-eqb, and_parts, and_from, lt-leb}
 use Rattle.std.proofs.lemmas.Slice.Eq.{bytes_eq-Decides}
 use Rattle.std.proofs.lemmas.Option.{same_Some, none-some}
 use Rattle.std.proofs.lemmas.List.{append-nil}
 use Rattle.alm_codec.specs.declared.version.Version.{Version}
 use Rattle.alm_codec.specs.declared.version.Version.TheVariants.{V01, V02, V03}
+use Rattle.alm_codec.specs.Versions.{is_open}
 use Rattle.alm_codec.proofs.Bytes.{chosen}
 use Rattle.alm_codec.specs.Format.{Format, number_field, raw, tested_field, both}
 use Rattle.alm_codec.specs.Reading.{IsBytes}
 use Rattle.alm_codec.proofs.Numbers.{wide16, wide32, wide64}
 use Rattle.alm_codec.proofs.Formats.{Lawful, number_lawful, raw_lawful, coded_lawful, tested_lawful, both_lawful}
 use Rattle.alm_checkpoint.specs.declared.layout.Layout.{Layout}
+use Rattle.alm_checkpoint.specs.declared.half.Half.{Half}
 use Rattle.alm_checkpoint.specs.declared.half_head.HalfHead.{HalfHead}
 use Rattle.alm_checkpoint.specs.Layouts.{device_len, image_size, is_rows, is_areas, is_segment}
-use Rattle.alm_checkpoint.specs.Headers.{device_name, version_named, name, of_rows, segment_fits, header, header_text, mark_weight, mark_of, allows, is_count, has_mark, mark_read, mark, half_head, half_head_text}
+use Rattle.alm_checkpoint.specs.Headers.{device_name, version_named, name, of_rows, segment_fits, header, header_text, mark_weight, mark_of, allows, is_count, has_mark, mark_read, mark, length_field, sums_field, end_field, end_text, head_sum, IsSum, IsHeadOf, half_head, half_head_text}
 
 -- ---- a field that passes a test
 
@@ -204,64 +206,143 @@ mark_keeps header v count allowed c = (marked_small v count c, unmarked_at heade
 mark_lawful : (header : Version) → Lawful (mark header)
 mark_lawful header = coded_lawful (number_field w64 (2 ^ 64)) (mark_read header) (λ m. mark_of m.0 m.1) (number_lawful w64 (2 ^ 64) wide64) (λ n m h e. (unmarked_is header n m e).is)
 
-abbrev is_size : ℕ → ℕ → Bool
-is_size image n = eqb n image
+-- the end of a head: the length of an image
 
-abbrev image_in : ℕ → Format ℕ
-image_in image = tested_field (number_field w64 (2 ^ 64)) (is_size image)
+abbrev size_read : ℕ → ℕ → Option ℕ
+size_read image n = cond (eqb n image) (Some 0) None
 
-abbrev mark_in : Version → ℕ → Format ((Version × ℕ) × ℕ)
-mark_in header image = both (mark header) (λ m. image_in image)
+size_is : (image n sum : ℕ) → size_read image n ≡ Some sum → (n ≡ image) × (sum ≡ 0)
+size_is image n sum e =
+    elim (chosen (eqb n image) (Some 0) None (Some sum) e) [
+      | inl (t, s) ↦ (eqb-true n image t, sym (same_Some 0 sum s))
+      | inr (t, s) ↦ absurd (none-some sum s)
+    ]
 
-abbrev head_in : Version → ℕ → Format (ℕ × ((Version × ℕ) × ℕ))
-head_in header image = both (number_field w64 (2 ^ 64)) (λ epoch. mark_in header image)
+length_lawful : (image : ℕ) → Lawful (length_field image)
+length_lawful image = coded_lawful (number_field w64 (2 ^ 64)) (size_read image) (λ _. image) (number_lawful w64 (2 ^ 64) wide64) (λ n sum h e. (size_is image n sum e).0)
 
-head_in_lawful : (header : Version) (image : ℕ) → Lawful (head_in header image)
-head_in_lawful header image =
-    both_lawful (number_field w64 (2 ^ 64)) (λ _. mark_in header image) (number_lawful w64 (2 ^ 64) wide64)
-    (λ _. both_lawful (mark header) (λ _. image_in image) (mark_lawful header)
-    (λ _. tested_lawful (number_field w64 (2 ^ 64)) (is_size image) (number_lawful w64 (2 ^ 64) wide64)))
+length_keeps : (image sum : ℕ) → image < 2 ^ 64 → sum ≡ 0 → (length_field image).Keeps sum
+length_keeps image sum lt e = (lt, ap (λ (b : Bool). cond b (Some 0) None) (eq-eqb image image refl) ∙ ap (λ (n : ℕ). Some n) (sym e))
 
-abbrev told_of : ℕ → Version × ℕ → HalfHead
-told_of epoch m = record { epoch = epoch; version = m.0; count = m.1 }
+-- .. or two checksums
 
-head_is_of : (header : Version) (image : ℕ) (p : ℕ × ((Version × ℕ) × ℕ)) (t : HalfHead) → (head_in header image).Keeps p → Some (told_of p.0 p.1.0) ≡ Some t → p ≡ (t.epoch, ((t.version, t.count), image))
-head_is_of header image p t h e =
-    let sized : p.1.1 ≡ image = eqb-true p.1.1 image (passes (number_field w64 (2 ^ 64)) (is_size image) p.1.1 h.1.1) in
-    let same = same_Some (told_of p.0 p.1.0) t e in
-    ap (λ (n : ℕ). (p.0, (p.1.0, n))) sized ∙ ap (λ (k : HalfHead). (k.epoch, ((k.version, k.count), image))) same
+abbrev is_sum : ℕ → ℕ → Bool
+is_sum sum n = eqb n sum
 
-pub half_head_lawful : (header : Version) (image : ℕ) → Lawful (half_head header image)
-half_head_lawful header image = coded_lawful (head_in header image) (λ p. Some (told_of p.0 p.1.0)) (λ t. (t.epoch, ((t.version, t.count), image))) (head_in_lawful header image) (head_is_of header image)
+abbrev two_sums : (ℕ → ℕ) → Format (ℕ × ℕ)
+two_sums head = both (number_field w32 (2 ^ 32)) (λ sum. tested_field (number_field w32 (2 ^ 32)) (is_sum (head sum)))
 
-pub head_keeps : (l : Layout) (t : HalfHead) → t.epoch < 2 ^ 64 → allows l.version t.version ≡ true → t.count ≤ 2 ^ 48 → image_size l < 2 ^ 64 → (half_head l.version (image_size l)).Keeps t
-head_keeps l t e a c i = (
-  (
-    e,
-    (
-      mark_keeps l.version t.version t.count a c,
-      passing (number_field w64 (2 ^ 64)) (is_size (image_size l)) (image_size l) i (eq-eqb (image_size l) (image_size l) refl),
-    ),
-  ),
-  refl,
-)
+sums_are : (head : ℕ → ℕ) (p : ℕ × ℕ) (sum : ℕ) → (two_sums head).Keeps p → Some p.0 ≡ Some sum → p ≡ (sum, head sum)
+sums_are head p sum h e =
+    let second : p.1 ≡ head p.0 = eqb-true p.1 (head p.0) (passes (number_field w32 (2 ^ 32)) (is_sum (head p.0)) p.1 h.1) in
+    ap (λ (n : ℕ). (p.0, n)) second ∙ ap (λ (n : ℕ). (n, head n)) (same_Some p.0 sum e)
 
--- the text of a head is read
-pub head_reads : (l : Layout) (t : HalfHead) → t.epoch < 2 ^ 64 → allows l.version t.version ≡ true → t.count ≤ 2 ^ 48 → image_size l < 2 ^ 64 → (half_head l.version (image_size l)).read (half_head_text l t.version t.epoch t.count) ≡ Ok (t, [])
-head_reads l t e a c i =
-    ap (half_head l.version (image_size l)).read (sym (append-nil (half_head_text l t.version t.epoch t.count)))
-    ∙ (half_head_lawful l.version (image_size l)).again t [] (head_keeps l t e a c i)
+sums_lawful : (head : ℕ → ℕ) → Lawful (sums_field head)
+sums_lawful head =
+    coded_lawful (two_sums head) (λ p. Some p.0) (λ sum. (sum, head sum))
+    (both_lawful (number_field w32 (2 ^ 32)) (λ sum. tested_field (number_field w32 (2 ^ 32)) (is_sum (head sum))) (number_lawful w32 (2 ^ 32) wide32)
+    (λ sum. tested_lawful (number_field w32 (2 ^ 32)) (is_sum (head sum)) (number_lawful w32 (2 ^ 32) wide32)))
+    (sums_are head)
+
+sums_keep : (head : ℕ → ℕ) (sum : ℕ) → sum < 2 ^ 32 → head sum < 2 ^ 32 → (sums_field head).Keeps sum
+sums_keep head sum lt own = ((lt, passing (number_field w32 (2 ^ 32)) (is_sum (head sum)) (head sum) own (eq-eqb (head sum) (head sum) refl)), refl)
+
+end_lawful : (l : Layout) (h : Half) (version : Version) (epoch count : ℕ) → Lawful (end_field l h version epoch count)
+end_lawful l h V01 epoch count = length_lawful (image_size l)
+end_lawful l h V02 epoch count = length_lawful (image_size l)
+end_lawful l h V03 epoch count = sums_lawful (head_sum l h V03 epoch count)
+
+end_keeps : (l : Layout) (h : Half) (version : Version) (epoch count sum : ℕ) → image_size l < 2 ^ 64 → IsSum version sum → (end_field l h version epoch count).Keeps sum
+end_keeps l h V01 epoch count sum i s = length_keeps (image_size l) sum i s
+end_keeps l h V02 epoch count sum i s = length_keeps (image_size l) sum i s
+end_keeps l h V03 epoch count sum i s = sums_keep (head_sum l h V03 epoch count) sum s (omega arith)
+
+end_sum : (l : Layout) (h : Half) (version : Version) (epoch count sum : ℕ) → (end_field l h version epoch count).Keeps sum → IsSum version sum
+end_sum l h V01 epoch count sum k = (size_is (image_size l) (image_size l) sum k.1).1
+end_sum l h V02 epoch count sum k = (size_is (image_size l) (image_size l) sum k.1).1
+end_sum l h V03 epoch count sum k = k.0.0
+
+end_is : (l : Layout) (h : Half) (version : Version) (epoch count sum : ℕ) → (end_field l h version epoch count).spell sum ≡ end_text l h version epoch count sum
+end_is l h V01 epoch count sum = refl
+end_is l h V02 epoch count sum = refl
+end_is l h V03 epoch count sum = refl
+
+abbrev mark_in : Layout → Half → ℕ → Format ((Version × ℕ) × ℕ)
+mark_in l h epoch = both (mark l.version) (λ m. end_field l h m.0 epoch m.1)
+
+abbrev head_in : Layout → Half → Format (ℕ × ((Version × ℕ) × ℕ))
+head_in l h = both (number_field w64 (2 ^ 64)) (λ epoch. mark_in l h epoch)
+
+head_in_lawful : (l : Layout) (h : Half) → Lawful (head_in l h)
+head_in_lawful l h =
+    both_lawful (number_field w64 (2 ^ 64)) (λ epoch. mark_in l h epoch) (number_lawful w64 (2 ^ 64) wide64)
+    (λ epoch. both_lawful (mark l.version) (λ m. end_field l h m.0 epoch m.1) (mark_lawful l.version) (λ m. end_lawful l h m.0 epoch m.1))
+
+abbrev told_of : ℕ → Version × ℕ → ℕ → HalfHead
+told_of epoch m sum = record { epoch = epoch; version = m.0; count = m.1; sum = sum }
+
+head_is_of : (p : ℕ × ((Version × ℕ) × ℕ)) (t : HalfHead) → Some (told_of p.0 p.1.0 p.1.1) ≡ Some t → p ≡ (t.epoch, ((t.version, t.count), t.sum))
+head_is_of p t e = ap (λ (k : HalfHead). (k.epoch, ((k.version, k.count), k.sum))) (same_Some (told_of p.0 p.1.0 p.1.1) t e)
+
+pub half_head_lawful : (l : Layout) (h : Half) → Lawful (half_head l h)
+half_head_lawful l h = coded_lawful (head_in l h) (λ p. Some (told_of p.0 p.1.0 p.1.1)) (λ t. (t.epoch, ((t.version, t.count), t.sum))) (head_in_lawful l h) (λ p t k e. head_is_of p t e)
+
+pub head_keeps : (l : Layout) (h : Half) (t : HalfHead) → IsHeadOf l t → image_size l < 2 ^ 64 → (half_head l h).Keeps t
+head_keeps l h t is i = ((is.epoch, (mark_keeps l.version t.version t.count is.allowed is.count, end_keeps l h t.version t.epoch t.count t.sum i is.sum)), refl)
+
+pub head_spelled : (l : Layout) (h : Half) (t : HalfHead) → (half_head l h).spell t ≡ half_head_text l h t
+head_spelled l h t = ap (λ (end : List ℕ). to_be_bytes w64 t.epoch ++ (to_be_bytes w64 (mark_of t.version t.count) ++ end)) (end_is l h t.version t.epoch t.count t.sum)
+
+-- the text of a head is read, whatever follows
+pub head_again : (l : Layout) (h : Half) (t : HalfHead) (rest : List ℕ) → IsHeadOf l t → image_size l < 2 ^ 64 → (half_head l h).read (half_head_text l h t ++ rest) ≡ Ok (t, rest)
+head_again l h t rest is i =
+    ap (λ (text : List ℕ). (half_head l h).read (text ++ rest)) (sym (head_spelled l h t))
+    ∙ (half_head_lawful l h).again t rest (head_keeps l h t is i)
+
+pub head_reads : (l : Layout) (h : Half) (t : HalfHead) → IsHeadOf l t → image_size l < 2 ^ 64 → (half_head l h).read (half_head_text l h t) ≡ Ok (t, [])
+head_reads l h t is i = ap (half_head l h).read (sym (append-nil (half_head_text l h t))) ∙ head_again l h t [] is i
 
 -- what is read is the text of a head
-pub record IsHead (l : Layout) (bytes : List ℕ) (x : HalfHead × List ℕ) : Type 0 where
-  pub parts : bytes ≡ half_head_text l x.0.version x.0.epoch x.0.count ++ x.1
-  pub epoch : x.0.epoch < 2 ^ 64
-  pub allowed : allows l.version x.0.version ≡ true
-  pub count : x.0.count ≤ 2 ^ 48
+pub record IsHead (l : Layout) (h : Half) (bytes : List ℕ) (x : HalfHead × List ℕ) : Type 0 where
+  pub parts : bytes ≡ half_head_text l h x.0 ++ x.1
+  pub is : IsHeadOf l x.0
 
-pub head_is : (l : Layout) (bytes : List ℕ) (x : HalfHead × List ℕ) → IsBytes bytes → (half_head l.version (image_size l)).read bytes ≡ Ok x → IsHead l bytes x
-head_is l bytes x fits e =
-    let t = (half_head_lawful l.version (image_size l)).takes bytes x fits e in
+pub head_is : (l : Layout) (h : Half) (bytes : List ℕ) (x : HalfHead × List ℕ) → IsBytes bytes → (half_head l h).read bytes ≡ Ok x → IsHead l h bytes x
+head_is l h bytes x fits e =
+    let t = (half_head_lawful l h).takes bytes x fits e in
     let k = t.1.0 in
     let m = unmarked_is l.version (mark_of x.0.version x.0.count) (pair x.0.version x.0.count) k.1.0.1 in
-    record { parts = t.0.parts; epoch = k.0; allowed = m.allowed; count = m.count }
+    record {
+      parts = t.0.parts ∙ ap (λ (text : List ℕ). text ++ x.1) (head_spelled l h x.0);
+      is = record { epoch = k.0; allowed = m.allowed; count = m.count; sum = end_sum l h x.0.version x.0.epoch x.0.count x.0.sum k.1.1 };
+    }
+
+-- ---- how long a head is
+
+pub head_long : (l : Layout) (h : Half) (t : HalfHead) → length (half_head_text l h t) ≡ 24
+head_long l h t =
+    omega (
+      arith,
+      end_long t.version,
+      length-append (to_be_bytes w64 t.epoch) (to_be_bytes w64 (mark_of t.version t.count) ++ end_text l h t.version t.epoch t.count t.sum),
+      length-append (to_be_bytes w64 (mark_of t.version t.count)) (end_text l h t.version t.epoch t.count t.sum),
+    )
+  where
+    end_long : (version : Version) → length (end_text l h version t.epoch t.count t.sum) ≡ 8
+    end_long V01 = refl
+    end_long V02 = refl
+    end_long V03 = refl
+
+-- ---- gates
+
+-- a half has the gates of its header
+pub gates_same : (header half : Version) (gate : ℕ) → allows header half ≡ true → is_open header gate ≡ is_open half gate
+gates_same V01 V01 gate allowed = refl
+gates_same V01 V02 gate allowed = refl
+gates_same V01 V03 gate allowed = absurd cc
+gates_same V02 V01 gate allowed = absurd cc
+gates_same V02 V02 gate allowed = refl
+gates_same V02 V03 gate allowed = absurd cc
+gates_same V03 V01 gate allowed = absurd cc
+gates_same V03 V02 gate allowed = absurd cc
+gates_same V03 V03 gate allowed = refl

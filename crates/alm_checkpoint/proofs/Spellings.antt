@@ -3,12 +3,13 @@
 use Rattle.std.proofs.Common.{◌≡◌, ℕ, ◌+◌, ◌≤◌, List, ◌∷◌, ◌++◌, Ok, sym, ap, ◌∙◌, arith}
 use Rattle.alm_codec.proofs.Numbers.{ok_is}
 use Rattle.alm_checkpoint.specs.declared.layout.Layout.{Layout}
+use Rattle.alm_checkpoint.specs.declared.half.Half.{Half}
 use Rattle.alm_checkpoint.specs.declared.half_head.HalfHead.{HalfHead}
-use Rattle.alm_checkpoint.specs.Layouts.{device_len, header_len, image_size}
+use Rattle.alm_checkpoint.specs.Layouts.{device_len, header_len}
 use Rattle.alm_checkpoint.specs.Headers.{header, header_text, half_head, half_head_text, IsHeadOf}
 use Rattle.alm_checkpoint.specs.Cut.{IsLayout}
 use Rattle.alm_checkpoint.specs.Opening.{layout_from, ◌>>=◌, read_to}
-use Rattle.alm_checkpoint.proofs.HeaderLaws.{header_keeps, header_lawful, header_reads, head_keeps, half_head_lawful}
+use Rattle.alm_checkpoint.proofs.HeaderLaws.{header_keeps, header_lawful, header_reads, head_again}
 use Rattle.alm_checkpoint.proofs.Shown.{image_small, suited}
 
 pub no_header_begins : (a b : Layout) (x y : List ℕ) → IsLayout a → IsLayout b → header_text a ++ x ≡ header_text b ++ y → a ≡ b
@@ -18,12 +19,10 @@ no_header_begins a b x y i j e =
     let second = (header_lawful size).again b y (header_keeps size b (suited size b j (omega arith))) in
     ap (λ (p : Layout × List ℕ). p.0) (ok_is (a, x) (b, y) (sym first ∙ ap (header size).read e ∙ second))
 
-head_again : (l : Layout) (t : HalfHead) (rest : List ℕ) → IsLayout l → IsHeadOf l t → (half_head l.version (image_size l)).read (half_head_text l t.version t.epoch t.count ++ rest) ≡ Ok (t, rest)
-head_again l t rest limits h = (half_head_lawful l.version (image_size l)).again t rest (head_keeps l t h.epoch h.allowed h.count (image_small l limits))
-
-pub no_head_begins : (l : Layout) (a b : HalfHead) (x y : List ℕ) → IsLayout l → IsHeadOf l a → IsHeadOf l b → half_head_text l a.version a.epoch a.count ++ x ≡ half_head_text l b.version b.epoch b.count ++ y → a ≡ b
-no_head_begins l a b x y limits i j e =
-    ap (λ (p : HalfHead × List ℕ). p.0) (ok_is (a, x) (b, y) (sym (head_again l a x limits i) ∙ ap (half_head l.version (image_size l)).read e ∙ head_again l b y limits j))
+pub no_head_begins : (l : Layout) (h : Half) (a b : HalfHead) (x y : List ℕ) → IsLayout l → IsHeadOf l a → IsHeadOf l b → half_head_text l h a ++ x ≡ half_head_text l h b ++ y → a ≡ b
+no_head_begins l h a b x y limits i j e =
+    let small = image_small l limits in
+    ap (λ (p : HalfHead × List ℕ). p.0) (ok_is (a, x) (b, y) (sym (head_again l h a x i small) ∙ ap (half_head l h).read e ∙ head_again l h b y j small))
 
 pub header_again : (size : ℕ) (l : Layout) → IsLayout l → device_len l ≤ size → layout_from size (165 ∷ header_text l) ≡ Ok l
 unfolding layout_from

@@ -1,27 +1,29 @@
 -- A cut with another half next to the one that stands, and one of which the other half stands.
-use Rattle.std.proofs.Common.{◌≡◌, true, inr, ℕ, ◌+◌, ◌^◌, ◌<◌, ◌≤◌, List, [], ◌∷◌, ◌++◌, length, refl, sym, ap, subst, ◌∙◌, append_assoc, arith, length-append}
-use Rattle.std.proofs.lemmas.List.{append-nil}
+use Rattle.std.proofs.Common.{◌≡◌, Bool, true, false, cond, ◌&&◌, inr, ℕ, suc, ◌+◌, ◌^◌, ◌<◌, ◌≤◌, List, [], ◌∷◌, ◌++◌, length, take, Ok, refl, sym, ap, subst, ◌∙◌, append_assoc, arith, length-append}
+use Rattle.std.proofs.lemmas.List.{append-nil, take_at}
 use Rattle.std.proofs.lemmas.Nat.{from_be_bytes-to_be_bytes_8}
-use Rattle.alm_types.specs.declared.action.Action.{Action}
 use Rattle.alm_model.specs.Plant.{Condensed}
 use Rattle.alm_model.specs.Step.{run}
 use Rattle.alm_model.specs.Rules.{KeepsRules, AreAdmitted}
 use Rattle.alm_model.proofs.Kept.{run-keeps}
 use Rattle.alm_codec.specs.declared.version.Version.{Version}
 use Rattle.alm_codec.specs.declared.version.Version.TheVariants.{V01, V02, V03}
-use Rattle.alm_codec.specs.Versions.{newer}
+use Rattle.alm_codec.specs.Versions.{is_open, newer}
 use Rattle.alm_codec.specs.Image.{IsImageText, IsOf, image_text}
 use Rattle.alm_codec.proofs.Full.{newer_bears}
-use Rattle.alm_segment.specs.Texts.{frames_text, AreFrames, actions_in}
+use Rattle.alm_segment.specs.Texts.{Frame, frames_text, AreFrames, actions_in}
 use Rattle.alm_model.proofs.Runs.{run_sizes, run_within}
 use Rattle.alm_checkpoint.specs.declared.layout.Layout.{Layout}
 use Rattle.alm_checkpoint.specs.declared.half.Half.{Half}
 use Rattle.alm_checkpoint.specs.declared.half.Half.TheVariants.{First, Second}
 use Rattle.alm_checkpoint.specs.Layouts.{other, half_len, image_size}
-use Rattle.alm_checkpoint.specs.Headers.{header_text, half_head_text, allows}
-use Rattle.alm_checkpoint.specs.Opening.{epoch_in}
-use Rattle.alm_checkpoint.specs.Cut.{Cut, Stores, IsBelow, Reaches, half_text, before, behind, device_of, with_other, turned_cut, turned_with, side_front, side_back}
-use Rattle.alm_checkpoint.proofs.Shown.{image_is_long}
+use Rattle.alm_checkpoint.specs.declared.half_head.HalfHead.{HalfHead}
+use Rattle.alm_checkpoint.specs.Headers.{header_text, half_head_text, is_summed, allows}
+use Rattle.alm_checkpoint.specs.Opening.{checked, gate_in, epoch_in, half_head_from, beside_from}
+use Rattle.alm_checkpoint.specs.Cut.{Cut, Stores, IsBelow, Reaches, head_before, half_text, before, behind, device_of, with_other, turned_cut, turned_with, side_front, side_back}
+use Rattle.alm_checkpoint.proofs.HeaderLaws.{head_long}
+use Rattle.alm_checkpoint.proofs.Pieces.{gate_short}
+use Rattle.alm_checkpoint.proofs.Shown.{image_is_long, told_again, head_fits}
 
 -- the plant that is stored keeps the rules, has as many rows and areas, and has an image
 pub rules_stored : (c : Cut) (plant : Condensed) → Stores c plant → KeepsRules plant
@@ -45,10 +47,11 @@ image_stored c plant s =
     record { rules = rules; fits = omega (arith, rules.stamps, within_stored c plant s); text = refl }
 
 -- another half next to it, that doesn't stand
-pub stores_other : (c : Cut) (plant : Condensed) (bytes : List ℕ) → Stores c plant → length bytes ≡ half_len c.layout → IsBelow c.epoch bytes → Stores (with_other c bytes) plant
+pub stores_other : (c : Cut) (plant : Condensed) (bytes : List ℕ) → Stores c plant → length bytes ≡ half_len c.layout → IsBelow c.layout (other c.half) c.epoch bytes → Stores (with_other c bytes) plant
 stores_other c plant bytes s size below = record {
   layout = s.layout;
   version = s.version;
+  opened = s.opened;
   epoch = s.epoch;
   image = s.image;
   sizes = s.sizes;
@@ -69,25 +72,26 @@ turn First s m n t u r = ap (λ (l : List ℕ). l ++ m ++ t ++ ((n ++ u) ++ r)) 
 turn Second s m n t u r = turn_back s m n t u r ∙ ap (λ (l : List ℕ). l ++ n ++ u ++ ((m ++ t) ++ r)) (sym (append-nil s))
 
 -- the other half with an image of this plant in the next epoch is the one that stands
-pub turns : (c : Cut) (plant : Condensed) (tail new_tail : List ℕ) → device_of (with_other c (half_text c.layout (newer c.version) (c.epoch + 1) plant [] ++ new_tail)) tail ≡ device_of (turned_cut c plant tail) new_tail
-turns c plant tail new_tail = turn c.half (165 ∷ header_text c.layout) (half_text c.layout c.version c.epoch c.base c.frames) (half_text c.layout (newer c.version) (c.epoch + 1) plant []) tail new_tail c.rest
+pub turns : (c : Cut) (plant : Condensed) (gate : ℕ) (tail new_tail : List ℕ) → device_of (with_other c (half_text c.layout (other c.half) (newer c.version) gate (c.epoch + 1) plant [] ++ new_tail)) tail ≡ device_of (turned_cut c plant gate tail) new_tail
+turns c plant gate tail new_tail = turn c.half (165 ∷ header_text c.layout) (half_text c.layout c.half c.version c.half_gate c.epoch c.base c.frames) (half_text c.layout (other c.half) (newer c.version) gate (c.epoch + 1) plant []) tail new_tail c.rest
 
-half_length : (c : Cut) (tail : List ℕ) → length (image_text c.base) ≡ image_size c.layout → Reaches c tail → length (half_text c.layout c.version c.epoch c.base c.frames ++ tail) ≡ half_len c.layout
+half_length : (c : Cut) (tail : List ℕ) → length (image_text c.base) ≡ image_size c.layout → Reaches c tail → length (half_text c.layout c.half c.version c.half_gate c.epoch c.base c.frames ++ tail) ≡ half_len c.layout
 half_length c tail by_image reaches =
     omega (
       arith,
       reaches,
       by_image,
-      length-append (half_text c.layout c.version c.epoch c.base c.frames) tail,
-      length-append ((165 ∷ half_head_text c.layout c.version c.epoch c.base.panel.count) ++ image_text c.base) (frames_text c.version c.epoch c.base.panel.count c.frames),
-      length-append (165 ∷ half_head_text c.layout c.version c.epoch c.base.panel.count) (image_text c.base),
+      length-append (half_text c.layout c.half c.version c.half_gate c.epoch c.base c.frames) tail,
+      head_long c.layout c.half (head_before c.version c.epoch c.base),
+      length-append ((c.half_gate ∷ half_head_text c.layout c.half (head_before c.version c.epoch c.base)) ++ image_text c.base) (frames_text c.version c.epoch c.base.panel.count c.frames),
+      length-append (c.half_gate ∷ half_head_text c.layout c.half (head_before c.version c.epoch c.base)) (image_text c.base),
     )
 
-epoch_there : (l : Layout) (version : Version) (epoch : ℕ) (q : Condensed) (frames : List (List Action)) (tail : List ℕ) → epoch < 2 ^ 64 → epoch_in (half_text l version epoch q frames ++ tail) ≡ epoch
-epoch_there l version epoch q frames tail lt = from_be_bytes-to_be_bytes_8 epoch lt
+epoch_there : (l : Layout) (h : Half) (version : Version) (gate epoch : ℕ) (q : Condensed) (frames : List Frame) (tail : List ℕ) → epoch < 2 ^ 64 → epoch_in (half_text l h version gate epoch q frames ++ tail) ≡ epoch
+epoch_there l h version gate epoch q frames tail lt = from_be_bytes-to_be_bytes_8 epoch lt
 
 -- a header that allows a half allows what a checkpoint makes of its version
-newer_allowed : (header half : Version) → allows header half ≡ true → allows header (newer half) ≡ true
+pub newer_allowed : (header half : Version) → allows header half ≡ true → allows header (newer half) ≡ true
 newer_allowed V01 V01 allowed = refl
 newer_allowed V01 V02 allowed = refl
 newer_allowed V01 V03 allowed = absurd cc
@@ -98,10 +102,47 @@ newer_allowed V03 V01 allowed = absurd cc
 newer_allowed V03 V02 allowed = absurd cc
 newer_allowed V03 V03 allowed = refl
 
-pub stores_turned : (c : Cut) (plant : Condensed) (tail : List ℕ) → Stores c plant → Reaches c tail → c.epoch + 1 < 2 ^ 64 → Stores (turned_cut c plant tail) plant
-stores_turned c plant tail s reaches more = record {
+twice_other : (h : Half) → other (other h) ≡ h
+twice_other First = refl
+twice_other Second = refl
+
+-- a head that is whole may be beside another, whatever its gate
+pub beside_whole : (l : Layout) (h : Half) (bytes : List ℕ) (t : HalfHead) → half_head_from l h bytes ≡ Ok t → beside_from l h bytes ≡ Ok tt
+beside_whole l h bytes t e = by_need (is_summed l.version && gate_in l.version bytes)
+  where
+    by_need : (b : Bool) → cond b (checked (half_head_from l h bytes)) (Ok tt) ≡ Ok tt
+    by_need true = ap checked e
+    by_need false = refl
+
+-- beside a closed gate nothing has to be whole
+pub shut_beside : (l : Layout) (h : Half) (half : List ℕ) → gate_in l.version half ≡ false → beside_from l h (take 25 half) ≡ Ok tt
+shut_beside l h half shut =
+    ap (λ (b : Bool). cond (is_summed l.version && b) (checked (half_head_from l h (take 25 half))) (Ok tt)) (gate_short l.version half ∙ shut) ∙ by_version (is_summed l.version)
+  where
+    by_version : (b : Bool) → cond (b && false) (checked (half_head_from l h (take 25 half))) (Ok tt) ≡ Ok tt
+    by_version true = refl
+    by_version false = refl
+
+-- the half that stood before is the other one then
+turned_below : (c : Cut) (plant : Condensed) (tail : List ℕ) → Stores c plant → IsBelow c.layout (other (other c.half)) (c.epoch + 1) (half_text c.layout c.half c.version c.half_gate c.epoch c.base c.frames ++ tail)
+turned_below c plant tail s =
+    let half : List ℕ = half_text c.layout c.half c.version c.half_gate c.epoch c.base c.frames ++ tail in
+    let head : HalfHead = head_before c.version c.epoch c.base in
+    let mark : List ℕ = c.half_gate ∷ half_head_text c.layout c.half head in
+    let front : take 25 half ≡ mark =
+    ap (take 25) (append_assoc (mark ++ image_text c.base) (frames_text c.version c.epoch c.base.panel.count c.frames) tail ∙ append_assoc mark (image_text c.base) (frames_text c.version c.epoch c.base.panel.count c.frames ++ tail))
+    ∙ take_at mark (image_text c.base ++ (frames_text c.version c.epoch c.base.panel.count c.frames ++ tail)) 25 (ap suc (head_long c.layout c.half head)) in
+    subst (λ (h : Half). IsBelow c.layout h (c.epoch + 1) half) (sym (twice_other c.half))
+    (record {
+      older = inr (omega (arith, epoch_there c.layout c.half c.version c.half_gate c.epoch c.base c.frames tail s.epoch));
+      whole = ap (beside_from c.layout c.half) front ∙ beside_whole c.layout c.half mark head (told_again c.half_gate c.layout c.half head s.layout (head_fits c plant s));
+    })
+
+pub stores_turned : (c : Cut) (plant : Condensed) (gate : ℕ) (tail : List ℕ) → Stores c plant → is_open (newer c.version) gate ≡ true → Reaches c tail → c.epoch + 1 < 2 ^ 64 → Stores (turned_cut c plant gate tail) plant
+stores_turned c plant gate tail s opened reaches more = record {
   layout = s.layout;
   version = newer_allowed c.layout.version c.version s.version;
+  opened = opened;
   epoch = more;
   image = image_stored c plant s;
   sizes = sizes_stored c plant s;
@@ -111,7 +152,7 @@ stores_turned c plant tail s reaches more = record {
   admitted = tt;
   runs = refl;
   size = half_length c tail (image_is_long c.layout c.base s.sizes s.image) reaches;
-  below = inr (omega (arith, epoch_there c.layout c.version c.epoch c.base c.frames tail s.epoch));
+  below = turned_below c plant tail s;
 }
 
 -- the other half's place among the bytes
@@ -122,24 +163,25 @@ side_second s m o t r = simp append_assoc
 side_first : (s m o t r : List ℕ) → (s ++ []) ++ m ++ t ++ (o ++ r) ≡ ((s ++ []) ++ m) ++ t ++ o ++ r
 side_first s m o t r = simp append_assoc
 
-pub beside : (l : Layout) (h : Half) (v : Version) (e : ℕ) (q : Condensed) (frames : List (List Action)) (old bytes rest tail : List ℕ)
-    → device_of (record { layout = l; half = h; version = v; epoch = e; base = q; frames = frames; other = bytes; rest = rest }) tail
-    ≡ side_front (record { layout = l; half = h; version = v; epoch = e; base = q; frames = frames; other = old; rest = rest }) h tail ++ bytes ++ side_back (record { layout = l; half = h; version = v; epoch = e; base = q; frames = frames; other = old; rest = rest }) h tail
-beside l First v e q frames old bytes rest tail = side_first (165 ∷ header_text l) (half_text l v e q frames) bytes tail rest
-beside l Second v e q frames old bytes rest tail = side_second (165 ∷ header_text l) (half_text l v e q frames) bytes tail rest
+pub beside : (l : Layout) (h : Half) (v : Version) (g e : ℕ) (q : Condensed) (frames : List Frame) (old bytes rest tail : List ℕ)
+    → device_of (record { layout = l; half = h; version = v; half_gate = g; epoch = e; base = q; frames = frames; other = bytes; rest = rest }) tail
+    ≡ side_front (record { layout = l; half = h; version = v; half_gate = g; epoch = e; base = q; frames = frames; other = old; rest = rest }) h tail ++ bytes ++ side_back (record { layout = l; half = h; version = v; half_gate = g; epoch = e; base = q; frames = frames; other = old; rest = rest }) h tail
+beside l First v g e q frames old bytes rest tail = side_first (165 ∷ header_text l) (half_text l First v g e q frames) bytes tail rest
+beside l Second v g e q frames old bytes rest tail = side_second (165 ∷ header_text l) (half_text l Second v g e q frames) bytes tail rest
 
 -- ---- a turn with frames that were copied
 
-pub turns_with : (c : Cut) (base : Condensed) (frames : List (List Action)) (tail new_tail : List ℕ)
-    → device_of (with_other c (half_text c.layout (newer c.version) (c.epoch + 1) base frames ++ new_tail)) tail ≡ device_of (turned_with c base frames tail) new_tail
-turns_with c base frames tail new_tail = turn c.half (165 ∷ header_text c.layout) (half_text c.layout c.version c.epoch c.base c.frames) (half_text c.layout (newer c.version) (c.epoch + 1) base frames) tail new_tail c.rest
+pub turns_with : (c : Cut) (base : Condensed) (gate : ℕ) (frames : List Frame) (tail new_tail : List ℕ)
+    → device_of (with_other c (half_text c.layout (other c.half) (newer c.version) gate (c.epoch + 1) base frames ++ new_tail)) tail ≡ device_of (turned_with c base gate frames tail) new_tail
+turns_with c base gate frames tail new_tail = turn c.half (165 ∷ header_text c.layout) (half_text c.layout c.half c.version c.half_gate c.epoch c.base c.frames) (half_text c.layout (other c.half) (newer c.version) gate (c.epoch + 1) base frames) tail new_tail c.rest
 
-pub stores_turned_with : (c : Cut) (plant base : Condensed) (frames : List (List Action)) (tail : List ℕ) → Stores c plant → Reaches c tail → c.epoch + 1 < 2 ^ 64 → IsImageText base (image_text base)
-    → IsOf c.layout.rows c.layout.areas base.panel.count base → base.panel.count ≤ 2 ^ 48 → AreFrames (c.epoch + 1) base.panel.count frames → AreAdmitted base (actions_in frames) → run base (actions_in frames) ≡ plant
-    → Stores (turned_with c base frames tail) plant
-stores_turned_with c plant base frames tail s reaches more image sizes count spelled admitted runs = record {
+pub stores_turned_with : (c : Cut) (plant base : Condensed) (gate : ℕ) (frames : List Frame) (tail : List ℕ) → Stores c plant → is_open (newer c.version) gate ≡ true → Reaches c tail → c.epoch + 1 < 2 ^ 64 → IsImageText base (image_text base)
+    → IsOf c.layout.rows c.layout.areas base.panel.count base → base.panel.count ≤ 2 ^ 48 → AreFrames (newer c.version) (c.epoch + 1) base.panel.count frames → AreAdmitted base (actions_in frames) → run base (actions_in frames) ≡ plant
+    → Stores (turned_with c base gate frames tail) plant
+stores_turned_with c plant base gate frames tail s opened reaches more image sizes count spelled admitted runs = record {
   layout = s.layout;
   version = newer_allowed c.layout.version c.version s.version;
+  opened = opened;
   epoch = more;
   image = image;
   sizes = sizes;
@@ -149,5 +191,5 @@ stores_turned_with c plant base frames tail s reaches more image sizes count spe
   admitted = admitted;
   runs = runs;
   size = half_length c tail (image_is_long c.layout c.base s.sizes s.image) reaches;
-  below = inr (omega (arith, epoch_there c.layout c.version c.epoch c.base c.frames tail s.epoch));
+  below = turned_below c plant tail s;
 }

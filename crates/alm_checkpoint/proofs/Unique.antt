@@ -1,6 +1,7 @@
 -- The bytes of a device encode one plant in one epoch, or have one fault.
-use Rattle.std.proofs.Common.{◌≡◌, inl, inr, ℕ, ◌+◌, ◌-◌, List, [], length, Some, None, Result, Ok, Err, refl, sym, ap, subst, ◌∙◌}
+use Rattle.std.proofs.Common.{◌≡◌, inl, inr, ℕ, ◌+◌, ◌-◌, Bool, cond, List, [], length, Some, None, Result, Ok, Err, refl, sym, ap, subst, ◌∙◌}
 use Rattle.std.specs.Prelude.{option_map}
+use Rattle.std.proofs.lemmas.Bool.{eq-eqb}
 use Rattle.alm_model.specs.Plant.{Condensed}
 use Rattle.alm_codec.specs.Image.{IsOf}
 use Rattle.alm_codec.specs.ImageFields.{damage_in, left_at}
@@ -8,9 +9,10 @@ use Rattle.alm_codec.proofs.SameImage.{no_image_begins, image_whole}
 use Rattle.alm_segment.specs.Folding.{stored_in}
 use Rattle.alm_checkpoint.specs.declared.device_fault.DeviceFault.{DeviceFault}
 use Rattle.alm_checkpoint.specs.declared.device_fault.DeviceFault.TheVariants.{Damaged}
-use Rattle.alm_checkpoint.specs.Layouts.{image_at, half_number}
+use Rattle.alm_checkpoint.specs.Layouts.{image_at, image_sum_at, half_number}
+use Rattle.alm_checkpoint.specs.Headers.{image_sum}
 use Rattle.alm_checkpoint.specs.Opening.{Opened, opened_in}
-use Rattle.alm_checkpoint.specs.Standing.{Stands, Spells, HasFault, end_of}
+use Rattle.alm_checkpoint.specs.Standing.{Stands, Spells, HasFault, end_of, image_damage}
 
 abbrev well : {A B : Type 0} → A → Result A B
 well x = Ok x
@@ -42,10 +44,12 @@ same_base o q r s t =
     no_image_begins q r o.image o.image [] [] s.image t.image of refl
 
 -- .. and not damaged
-undamaged : (o : Opened) (q : Condensed) (at : ℕ) → Spells o q → damage_in o.layout.rows o.layout.areas o.head.count o.image ≡ Some at → ⊥
+undamaged : (o : Opened) (q : Condensed) (at : ℕ) → Spells o q → image_damage o ≡ Some at → ⊥
 undamaged o q at s e =
+    let field : option_map (λ at. image_at o.layout o.half + at) (damage_in o.layout.rows o.layout.areas o.head.count o.image) ≡ Some at =
+    sym (ap (λ (b : Bool). cond b (option_map (λ at. image_at o.layout o.half + at) (damage_in o.layout.rows o.layout.areas o.head.count o.image)) (Some (image_sum_at o.layout o.half))) (eq-eqb o.head.sum (image_sum o.head.version o.image) s.sum)) ∙ e in
     let none : damage_in o.layout.rows o.layout.areas o.head.count o.image ≡ None = ap (λ r. option_map (λ left. length o.image - left) (left_at r)) (image_whole o.layout.rows o.layout.areas o.head.count q o.image s.sizes s.image) in
-    let f = sym none ∙ e in cc
+    let f = sym (ap (option_map (λ at. image_at o.layout o.half + at)) none) ∙ field in cc
 
 abbrev pair : Condensed → ℕ → Condensed × ℕ
 pair q left = (q, left)
@@ -82,8 +86,8 @@ fault_once device x y (inr (inl f)) (inl g) = absurd (well_not (opened_in device
 fault_once device x y (inr (inr f)) (inl g) = absurd (well_not (opened_in device) f.opened y f.opens g)
 fault_once device x y (inr (inl f)) (inr (inl g)) =
     let same = same_opened device f.opened g.opened f.opens g.opens in
-    let ats : f.at ≡ g.at = same_places f.at g.at (sym f.damage ∙ ap (λ (o : Opened). damage_in o.layout.rows o.layout.areas o.head.count o.image) same ∙ g.damage) in
-    f.is ∙ (λ i. Damaged (half_number (same i).half) (image_at (same i).layout (same i).half + ats i)) ∙ sym g.is
+    let ats : f.at ≡ g.at = same_places f.at g.at (sym f.damage ∙ ap image_damage same ∙ g.damage) in
+    f.is ∙ (λ i. Damaged (half_number (same i).half) (ats i)) ∙ sym g.is
 fault_once device x y (inr (inl f)) (inr (inr g)) =
     let same = same_opened device g.opened f.opened g.opens f.opens in
     absurd (undamaged f.opened g.base f.at (subst (λ (o : Opened). Spells o g.base) same g.spells) f.damage)

@@ -1,20 +1,19 @@
 -- A device cut into its fields.
-use Rattle.std.specs.Prelude.{◌≡◌, ◌⊎◌, ℕ, ◌+◌, ◌<◌, ◌≤◌, ◌^◌, true, false, List, [], ◌∷◌, ◌++◌, length}
-use Rattle.alm_types.specs.declared.action.Action.{Action}
+use Rattle.std.specs.Prelude.{◌≡◌, ◌⊎◌, ℕ, ◌+◌, ◌<◌, ◌≤◌, ◌^◌, true, false, List, [], ◌∷◌, ◌++◌, length, take, Ok}
 use Rattle.alm_model.specs.Plant.{Condensed}
 use Rattle.alm_model.specs.Step.{run}
 use Rattle.alm_model.specs.Rules.{AreAdmitted}
 use Rattle.alm_codec.specs.Image.{IsImageText, IsOf, image_text}
 use Rattle.alm_codec.specs.declared.version.Version.{Version}
-use Rattle.alm_codec.specs.Versions.{AreBorne, newer}
-use Rattle.alm_segment.specs.Course.{is_gate_open}
-use Rattle.alm_segment.specs.Texts.{frames_text, AreFrames, actions_in}
+use Rattle.alm_codec.specs.Versions.{AreBorne, is_open, newer}
+use Rattle.alm_segment.specs.Texts.{Frame, frames_text, AreFrames, actions_in}
 use Rattle.alm_checkpoint.specs.declared.layout.Layout.{Layout}
 use Rattle.alm_checkpoint.specs.declared.half.Half.{Half}
+use Rattle.alm_checkpoint.specs.declared.half_head.HalfHead.{HalfHead}
 use Rattle.alm_checkpoint.specs.declared.half.Half.TheVariants.{First, Second}
-use Rattle.alm_checkpoint.specs.Layouts.{other, half_len, is_rows, is_areas, is_segment}
-use Rattle.alm_checkpoint.specs.Headers.{header_text, half_head_text, allows}
-use Rattle.alm_checkpoint.specs.Opening.{gate_in, epoch_in}
+use Rattle.alm_checkpoint.specs.Layouts.{other, head_len, half_len, is_rows, is_areas, is_segment}
+use Rattle.alm_checkpoint.specs.Headers.{header_text, half_head_text, image_sum, allows}
+use Rattle.alm_checkpoint.specs.Opening.{gate_in, epoch_in, beside_from}
 use Rattle.alm_types.specs.Sizes.{most_actions}
 
 -- the limits of a layout
@@ -26,20 +25,26 @@ pub record IsLayout (l : Layout) : Type 0 where
 -- A device whose half stands, without the bytes of its segment from the first closed gate on.
 pub record Cut : Type 0 where
   pub layout : Layout
-  -- the half that stands, its version, its epoch, the plant of its image and the actions of its frames
+  -- the half that stands, its version, its gate, its epoch, the plant of its image and its frames
   pub half : Half
   pub version : Version
+  pub half_gate : ℕ
   pub epoch : ℕ
   pub base : Condensed
-  pub frames : List (List Action)
+  pub frames : List Frame
   -- the bytes of the other half, and those after both
   pub other : List ℕ
   pub rest : List ℕ
 
+-- the head of a half that has the image of this plant
+abbrev pub head_before : Version → (epoch : ℕ) → Condensed → HalfHead
+head_before version epoch base =
+    record { epoch = epoch; version = version; count = base.panel.count; sum = image_sum version (image_text base) }
+
 -- a half from its gate on, up to a place in its segment
-abbrev pub half_text : Layout → Version → (epoch : ℕ) → Condensed → List (List Action) → List ℕ
-half_text l version epoch base frames =
-    165 ∷ half_head_text l version epoch base.panel.count ++ image_text base ++ frames_text version epoch base.panel.count frames
+abbrev pub half_text : Layout → Half → Version → (gate epoch : ℕ) → Condensed → List Frame → List ℕ
+half_text l h version gate epoch base frames =
+    gate ∷ half_head_text l h (head_before version epoch base) ++ image_text base ++ frames_text version epoch base.panel.count frames
 
 -- what is before the half that stands, and after it
 abbrev pub before : Half → List ℕ → List ℕ
@@ -51,7 +56,7 @@ behind First other rest = other ++ rest
 behind Second other rest = rest
 
 abbrev pub front : Cut → List ℕ
-front c = (165 ∷ header_text c.layout ++ before c.half c.other) ++ half_text c.layout c.version c.epoch c.base c.frames
+front c = (165 ∷ header_text c.layout ++ before c.half c.other) ++ half_text c.layout c.half c.version c.half_gate c.epoch c.base c.frames
 
 abbrev pub back : Cut → List ℕ
 back c = behind c.half c.other c.rest
@@ -64,46 +69,59 @@ device_of c tail = front c ++ tail ++ back c
 abbrev pub Reaches : Cut → List ℕ → Type 0
 Reaches c tail = length (frames_text c.version c.epoch c.base.panel.count c.frames) + length tail ≡ c.layout.segment
 
--- the other half does not stand next to one of this epoch
-abbrev pub IsBelow : ℕ → List ℕ → Type 0
-IsBelow epoch other = (gate_in other ≡ false) ⊎ (epoch_in other < epoch)
+-- a half does not stand next to one of this epoch, and its head is whole where it has to be
+pub record IsBelow (l : Layout) (h : Half) (epoch : ℕ) (half : List ℕ) : Type 0 where
+  pub older : (gate_in l.version half ≡ false) ⊎ (epoch_in half < epoch)
+  pub whole : beside_from l h (take head_len half) ≡ Ok tt
 
 -- it stores this plant
 pub record Stores (c : Cut) (plant : Condensed) : Type 0 where
   pub layout : IsLayout c.layout
   pub version : allows c.layout.version c.version ≡ true
+  pub opened : is_open c.version c.half_gate ≡ true
   pub epoch : c.epoch < 2 ^ 64
   pub image : IsImageText c.base (image_text c.base)
   pub sizes : IsOf c.layout.rows c.layout.areas c.base.panel.count c.base
   pub count : c.base.panel.count ≤ most_actions
-  pub frames : AreFrames c.epoch c.base.panel.count c.frames
+  pub frames : AreFrames c.version c.epoch c.base.panel.count c.frames
   pub borne : AreBorne c.version (actions_in c.frames)
   pub admitted : AreAdmitted c.base (actions_in c.frames)
   pub runs : run c.base (actions_in c.frames) ≡ plant
   pub size : length c.other ≡ half_len c.layout
-  pub below : IsBelow c.epoch c.other
+  pub below : IsBelow c.layout (other c.half) c.epoch c.other
 
 -- ---- the same device, changed
 
+-- the same frames, with any open gates
+abbrev pub OtherGates : Version → (frames others : List Frame) → Type 0
+OtherGates version [] [] = Unit {0}
+OtherGates version (f ∷ frames) (g ∷ others) = (g.actions ≡ f.actions) × (is_open version g.gate ≡ true) × OtherGates version frames others
+OtherGates version _ _ = ⊥
+
+-- another gate of the half that stands, and these frames
+abbrev pub with_gates : Cut → ℕ → List Frame → Cut
+with_gates c gate frames = record c { half_gate = gate; frames = frames }
+
 -- one frame more after the others
-abbrev pub with_frame : Cut → List Action → Cut
-with_frame c actions = record c { frames = c.frames ++ actions ∷ [] }
+abbrev pub with_frame : Cut → Frame → Cut
+with_frame c frame = record c { frames = c.frames ++ frame ∷ [] }
 
 -- another half next to the one that stands
 abbrev pub with_other : Cut → List ℕ → Cut
 with_other c bytes = record c { other = bytes }
 
--- the other half stands, in the next epoch and the version that a checkpoint writes. It has the image of this plant and no
--- frames; these bytes end the half that stood before
-abbrev pub turned_cut : Cut → Condensed → List ℕ → Cut
-turned_cut c plant tail = record {
+-- the other half stands with this gate, in the next epoch and the version that a checkpoint writes. It has the image of this
+-- plant and no frames; these bytes end the half that stood before
+abbrev pub turned_cut : Cut → Condensed → (gate : ℕ) → List ℕ → Cut
+turned_cut c plant gate tail = record {
   layout = c.layout;
   half = other c.half;
   version = newer c.version;
+  half_gate = gate;
   epoch = c.epoch + 1;
   base = plant;
   frames = [];
-  other = half_text c.layout c.version c.epoch c.base c.frames ++ tail;
+  other = half_text c.layout c.half c.version c.half_gate c.epoch c.base c.frames ++ tail;
   rest = c.rest;
 }
 
@@ -114,7 +132,7 @@ pub record IsCut (device : List ℕ) (epoch : ℕ) (plant : Condensed) (place : 
   pub tail : List ℕ
   pub is : device ≡ device_of cut (gate ∷ tail)
   pub stores : Stores cut plant
-  pub shut : is_gate_open gate ≡ false
+  pub shut : is_open cut.version gate ≡ false
   pub reaches : Reaches cut (gate ∷ tail)
   pub of_epoch : cut.epoch ≡ epoch
   pub gate_is : length (front cut) ≡ place
@@ -126,8 +144,8 @@ side_front c Second tail = 165 ∷ header_text c.layout
 
 abbrev pub side_back : Cut → Half → List ℕ → List ℕ
 side_back c First tail = c.rest
-side_back c Second tail = half_text c.layout c.version c.epoch c.base c.frames ++ tail ++ c.rest
+side_back c Second tail = half_text c.layout c.half c.version c.half_gate c.epoch c.base c.frames ++ tail ++ c.rest
 
 -- the same, if the other half also has frames after its image
-abbrev pub turned_with : Cut → Condensed → List (List Action) → List ℕ → Cut
-turned_with c base frames tail = record (turned_cut c base tail) { frames = frames }
+abbrev pub turned_with : Cut → Condensed → (gate : ℕ) → List Frame → List ℕ → Cut
+turned_with c base gate frames tail = record (turned_cut c base gate tail) { frames = frames }

@@ -1,8 +1,9 @@
 -- Opening the bytes of a device: the header, the half that stands and its head, in the order in which faults are
 -- reported.
-use Rattle.std.specs.Prelude.{ℕ, ◌+◌, ◌-◌, List, length, drop, Bool, true, false, Result, Ok, Err, nat_lt, nat_le, ◌==◌, if◌then◌else◌}
+use Rattle.std.specs.Prelude.{ℕ, ◌+◌, ◌-◌, ◌&&◌, List, length, drop, Bool, true, false, Result, Ok, Err, nat_lt, nat_le, ◌==◌, if◌then◌else◌}
 use Rattle.std.specs.Int.{w64, from_be_bytes}
-use Rattle.alm_segment.specs.Course.{is_gate_open}
+use Rattle.alm_codec.specs.declared.version.Version.{Version}
+use Rattle.alm_codec.specs.Versions.{is_open}
 use Rattle.alm_checkpoint.specs.declared.layout.Layout.{Layout}
 use Rattle.alm_checkpoint.specs.declared.half.Half.{Half}
 use Rattle.alm_checkpoint.specs.declared.half.Half.TheVariants.{First, Second}
@@ -11,8 +12,8 @@ use Rattle.alm_checkpoint.specs.declared.device_fault.DeviceFault.TheVariants.{U
 use Rattle.alm_checkpoint.specs.declared.no_choice.NoChoice.{NoChoice}
 use Rattle.alm_checkpoint.specs.declared.no_choice.NoChoice.TheVariants.{NoneOpen, EqualEpochs}
 use Rattle.alm_checkpoint.specs.declared.half_head.HalfHead.{HalfHead}
-use Rattle.alm_checkpoint.specs.Layouts.{layout_byte, part, header_len, head_len, half_at, image_at, segment_at, image_size, half_number}
-use Rattle.alm_checkpoint.specs.Headers.{header, half_head}
+use Rattle.alm_checkpoint.specs.Layouts.{layout_byte, is_header_open, part, header_len, head_len, half_at, image_at, segment_at, image_size, half_number, other}
+use Rattle.alm_checkpoint.specs.Headers.{header, half_head, is_summed}
 
 infixl 10 ◌>>=◌
 abbrev pub ◌>>=◌ : {A B : Type 0} → Result A DeviceFault → (A → Result B DeviceFault) → Result B DeviceFault
@@ -33,7 +34,7 @@ read_to half end (Err left) = Err (Damaged half (end - left))
 unfoldable pub layout_from : (size : ℕ) → List ℕ → Result Layout DeviceFault
 layout_from size start = do
   _ ← rule (nat_le header_len (length start)) Unformatted
-  _ ← rule (is_gate_open (layout_byte start 0)) Unformatted
+  _ ← rule (is_header_open (layout_byte start 0)) Unformatted
   l ← read_to 2 header_len ((header size).read (drop 1 start))
   Ok l.0
 
@@ -53,22 +54,44 @@ abbrev pub or_fault : Layout → Result Half NoChoice → Result Half DeviceFaul
 or_fault l (Ok h) = Ok h
 or_fault l (Err why) = Err (no_half l why)
 
--- the gate of a half and its epoch, by the bytes of its head
-abbrev pub gate_in : List ℕ → Bool
-gate_in bytes = is_gate_open (layout_byte bytes 0)
+-- whether a half's gate is open under a header of a version, and the half's epoch, by the bytes of its head
+abbrev pub gate_in : Version → List ℕ → Bool
+gate_in version bytes = is_open version (layout_byte bytes 0)
 
 abbrev pub epoch_in : List ℕ → ℕ
 epoch_in bytes = from_be_bytes w64 (part 1 8 bytes)
 
 -- the half that stands, by the bytes of both heads
 abbrev pub chosen_from : Layout → (first second : List ℕ) → Result Half DeviceFault
-chosen_from l first second = or_fault l (choice (gate_in first) (gate_in second) (epoch_in first) (epoch_in second))
+chosen_from l first second = or_fault l (choice (gate_in l.version first) (gate_in l.version second) (epoch_in first) (epoch_in second))
 
 -- what the head of a half says, by its bytes
 unfoldable pub half_head_from : Layout → Half → List ℕ → Result HalfHead DeviceFault
 half_head_from l h bytes = do
-  x ← read_to (half_number h) (image_at l h) ((half_head l.version (image_size l)).read (drop 1 bytes))
+  x ← read_to (half_number h) (image_at l h) ((half_head l h).read (drop 1 bytes))
   Ok x.0
+
+-- what was read is whole; its value counts for nothing
+abbrev pub checked : {A : Type 0} → Result A DeviceFault → Result Unit DeviceFault
+checked (Ok x) = Ok tt
+checked (Err fault) = Err fault
+
+-- the head of the half that doesn't stand has to be whole in version 03, if its gate is open
+abbrev pub beside_from : Layout → Half → List ℕ → Result Unit DeviceFault
+beside_from l h bytes = if is_summed l.version && gate_in l.version bytes then checked (half_head_from l h bytes) else Ok tt
+
+-- one of two heads
+abbrev pub head_by : Half → (first second : List ℕ) → List ℕ
+head_by First first second = first
+head_by Second first second = second
+
+-- the half that stands and what its head says, by the bytes of both heads
+unfoldable pub heads_from : Layout → (first second : List ℕ) → Result (Half × HalfHead) DeviceFault
+heads_from l first second = do
+  h ← chosen_from l first second
+  t ← half_head_from l h (head_by h first second)
+  _ ← beside_from l (other h) (head_by (other h) first second)
+  Ok (h, t)
 
 -- ---- on a device
 
@@ -78,8 +101,8 @@ head_of l h device = part (half_at l h) head_len device
 abbrev pub layout_in : List ℕ → Result Layout DeviceFault
 layout_in device = layout_from (length device) (part 0 header_len device)
 
-abbrev pub chosen_in : Layout → List ℕ → Result Half DeviceFault
-chosen_in l device = chosen_from l (head_of l First device) (head_of l Second device)
+abbrev pub heads_in : Layout → List ℕ → Result (Half × HalfHead) DeviceFault
+heads_in l device = heads_from l (head_of l First device) (head_of l Second device)
 
 -- the layout, the half that stands, what its head says, and its image and segment
 pub record Opened : Type 0 where
@@ -98,6 +121,5 @@ opened_half l h t device = opened_with l h t (part (image_at l h) (image_size l)
 unfoldable pub opened_in : List ℕ → Result Opened DeviceFault
 opened_in device = do
   l ← layout_in device
-  h ← chosen_in l device
-  t ← half_head_from l h (head_of l h device)
-  Ok (opened_half l h t device)
+  x ← heads_in l device
+  Ok (opened_half l x.0 x.1 device)

@@ -1,7 +1,6 @@
 -- What the half that stands holds.
-use Rattle.std.specs.Prelude.{◌≡◌, ◌⊎◌, ℕ, ◌+◌, ◌-◌, List, Some, Ok, Err}
+use Rattle.std.specs.Prelude.{◌≡◌, ◌⊎◌, ℕ, ◌-◌, List, Some, Ok, Err}
 use Rattle.alm_model.specs.Plant.{Condensed}
-use Rattle.alm_codec.specs.ImageFields.{damage_in}
 use Rattle.alm_codec.specs.declared.version.Version.{Version}
 use Rattle.alm_segment.specs.Folding.{stored_in}
 use Rattle.alm_checkpoint.specs.declared.layout.Layout.{Layout}
@@ -10,9 +9,9 @@ use Rattle.alm_checkpoint.specs.declared.device_fault.DeviceFault.{DeviceFault}
 use Rattle.alm_checkpoint.specs.declared.device_fault.DeviceFault.TheVariants.{Damaged}
 use Rattle.alm_checkpoint.specs.declared.restore_fault.RestoreFault.{RestoreFault}
 use Rattle.alm_checkpoint.specs.declared.restore_fault.RestoreFault.TheVariants as restore
-use Rattle.alm_checkpoint.specs.Layouts.{image_at, half_number}
+use Rattle.alm_checkpoint.specs.Layouts.{half_number}
 use Rattle.alm_checkpoint.specs.Opening.{Opened}
-use Rattle.alm_checkpoint.specs.Standing.{Spells, Stands, HasFault, gate_place, end_of}
+use Rattle.alm_checkpoint.specs.Standing.{Spells, Stands, HasFault, gate_place, end_of, image_damage}
 
 -- it holds a plant, and its first closed gate is at a place
 pub record Holds (o : Opened) (plant : Condensed) (gate : ℕ) : Type 0 where
@@ -25,8 +24,8 @@ pub record Holds (o : Opened) (plant : Condensed) (gate : ℕ) : Type 0 where
 -- its image is damaged
 pub record HasImageDamage (o : Opened) (fault : DeviceFault) : Type 0 where
   pub at : ℕ
-  pub damage : damage_in o.layout.rows o.layout.areas o.head.count o.image ≡ Some at
-  pub is : fault ≡ Damaged (half_number o.half) (image_at o.layout o.half + at)
+  pub damage : image_damage o ≡ Some at
+  pub is : fault ≡ Damaged (half_number o.half) at
 
 -- .. or a frame, or an action isn't admitted there
 pub record HasFrameDamage (o : Opened) (fault : DeviceFault) : Type 0 where

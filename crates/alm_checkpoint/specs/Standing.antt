@@ -1,20 +1,22 @@
 -- What the bytes of a device encode, or their first fault.
-use Rattle.std.specs.Prelude.{◌≡◌, ◌⊎◌, ℕ, ◌+◌, ◌-◌, List, Some, Ok, Err}
+use Rattle.std.specs.Prelude.{◌≡◌, ◌⊎◌, ℕ, ◌+◌, ◌-◌, List, Option, Some, Ok, Err, option_map, ◌==◌, if◌then◌else◌}
 use Rattle.alm_model.specs.Plant.{Condensed}
 use Rattle.alm_codec.specs.Image.{IsImageText, IsOf}
 use Rattle.alm_codec.specs.ImageFields.{damage_in}
 use Rattle.alm_segment.specs.Folding.{stored_in}
 use Rattle.alm_checkpoint.specs.declared.device_fault.DeviceFault.{DeviceFault}
 use Rattle.alm_checkpoint.specs.declared.device_fault.DeviceFault.TheVariants.{Damaged}
-use Rattle.alm_checkpoint.specs.Layouts.{half_at, half_len, image_at, half_number}
+use Rattle.alm_checkpoint.specs.Layouts.{half_at, half_len, image_at, image_sum_at, half_number}
+use Rattle.alm_checkpoint.specs.Headers.{image_sum}
 use Rattle.alm_checkpoint.specs.Opening.{Opened, opened_in}
 
 -- the end of the half that stands
 abbrev pub end_of : Opened → ℕ
 end_of o = half_at o.layout o.half + half_len o.layout
 
--- the image of the half that stands is that of a plant
+-- the image of the half that stands is that of a plant, and has the checksum that the head says
 pub record Spells (o : Opened) (plant : Condensed) : Type 0 where
+  pub sum : o.head.sum ≡ image_sum o.head.version o.image
   pub sizes : IsOf o.layout.rows o.layout.areas o.head.count plant
   pub image : IsImageText plant o.image
 
@@ -35,13 +37,20 @@ pub record Stands (device : List ℕ) (epoch : ℕ) (plant : Condensed) : Type 0
 abbrev pub gate_place : {device : List ℕ} {epoch : ℕ} {plant : Condensed} → Stands device epoch plant → ℕ
 gate_place s = end_of s.opened - s.left
 
+-- where the image is damaged: at its checksum, or else at its first damaged field
+abbrev pub image_damage : Opened → Option ℕ
+image_damage o =
+    if o.head.sum == image_sum o.head.version o.image
+    then option_map (λ at. image_at o.layout o.half + at) (damage_in o.layout.rows o.layout.areas o.head.count o.image)
+    else Some (image_sum_at o.layout o.half)
+
 -- the half that stands has a damaged image
 pub record HasImageFault (device : List ℕ) (fault : DeviceFault) : Type 0 where
   pub opened : Opened
   pub opens : opened_in device ≡ Ok opened
   pub at : ℕ
-  pub damage : damage_in opened.layout.rows opened.layout.areas opened.head.count opened.image ≡ Some at
-  pub is : fault ≡ Damaged (half_number opened.half) (image_at opened.layout opened.half + at)
+  pub damage : image_damage opened ≡ Some at
+  pub is : fault ≡ Damaged (half_number opened.half) at
 
 -- .. or a damaged frame, or one with an action that isn't admitted there
 pub record FrameFault (device : List ℕ) (fault : DeviceFault) : Type 0 where

@@ -5,7 +5,7 @@ ghost use Rattle.alm_checkpoint.specs.Opening.{gate_in, epoch_in, choice};
 
 use crate::half::Half;
 use crate::no_choice::NoChoice;
-use alm_segment::OPEN_GATE;
+use alm_codec::Version;
 
 /// The gate of a half and its epoch, which decide between the halves.
 #[derive(Clone, Copy, Debug, PartialEq, Eq)]
@@ -14,14 +14,14 @@ pub struct HalfGate {
     pub epoch: u64,
 }
 
-/// The gate of a half and its epoch, by the 25 bytes of its head. The other fields are not read.
-pub fn read_half_gate(bytes: &[u8]) -> HalfGate
+/// The gate of a half and its epoch, by the 25 bytes of its head under a header of a version. The other fields are not read.
+pub fn read_half_gate(bytes: &[u8], version: Version) -> HalfGate
     requires { length bytes.now ≡ 25 }
-    ensures gate { result.open ≡ gate_in bytes.now }
+    ensures gate { result.open ≡ gate_in version bytes.now }
     ensures epoch { result.epoch ≡ epoch_in bytes.now }
 {
     HalfGate {
-        open: bytes[0] == OPEN_GATE,
+        open: version.is_open(bytes[0]),
         epoch: u64::from_be_bytes([
             bytes[1], bytes[2], bytes[3], bytes[4], bytes[5], bytes[6], bytes[7], bytes[8],
         ]),

@@ -1,17 +1,16 @@
 //! Reading the head of a half.
 
-ghost use Rattle.std.specs.Prelude.{◌≡◌, ◌≤◌, ◌^◌, ◌==◌, length, true, IfOk};
-ghost use Rattle.std.specs.Int.{w64};
+ghost use Rattle.std.specs.Prelude.{◌≡◌, ◌≤◌, length, true, IfOk};
 ghost use Rattle.alm_codec.specs.Reading.{Gives};
-ghost use Rattle.alm_codec.specs.Format.{tested_field, number_field};
-ghost use Rattle.alm_checkpoint.specs.Headers.{half_head, mark, mark_weight, allows, has_mark};
+ghost use Rattle.alm_codec.specs.declared.version.Version.TheVariants.{V03};
+ghost use Rattle.alm_checkpoint.specs.Headers.{half_head, head_sum, length_field, sums_field, end_field, mark, mark_weight, allows, has_mark};
 ghost use Rattle.alm_checkpoint.specs.Opening.{half_head_from};
 ghost use Rattle.alm_types.specs.Sizes.{most_actions};
 
 use crate::device_fault::DeviceFault;
 use crate::half::Half;
 use crate::layout::Layout;
-use alm_codec::fields::u64_at;
+use alm_codec::fields::{u32_at, u64_at};
 use alm_codec::{BytesLeft, Version};
 use alm_types::MOST_ACTIONS;
 
@@ -24,6 +23,8 @@ pub struct HalfHead {
     pub version: Version,
     /// How many actions made the plant of its image, at most 2^48.
     pub count: u64,
+    /// The checksum of its image in version 03, else 0.
+    pub sum: u32,
 }
 
 /// What the mark of version 02 adds to the count: 2 in the first of the eight bytes that they share.
@@ -81,43 +82,92 @@ fn mark_of(bytes: &[u8], header: Version) -> Result<((Version, u64), &[u8]), Byt
     Err(BytesLeft(bytes.len()))
 }
 
-/// The length of the image, which is known beforehand.
-fn image_of(bytes: &[u8], image: usize) -> Result<(u64, &[u8]), BytesLeft>
-    ensures { Gives (λ x. (x.0, x.1.now)) result
-        ((tested_field (number_field w64 (2 ^ 64)) (λ n. n == image)).read bytes.now) }
+/// The length of the image, which is known beforehand; such a head says no checksum.
+fn length_of(bytes: &[u8], image: usize) -> Result<(u32, &[u8]), BytesLeft>
+    ensures { Gives (λ x. (x.0, x.1.now)) result ((length_field image).read bytes.now) }
 {
     let (found, rest) = u64_at(bytes)?;
     if found == image as u64 {
-        Ok((found, rest))
+        Ok((0, rest))
     } else {
         Err(BytesLeft(bytes.len()))
     }
 }
 
-/// All fields after the gate.
-fn fields_of(bytes: &[u8], header: Version, image: usize) -> Result<(HalfHead, &[u8]), BytesLeft>
-    ensures count { IfOk result (λ x. x.0.count ≤ most_actions) }
-    ensures allowed { IfOk result (λ x. allows header x.0.version ≡ true) }
-    ensures fields { Gives (λ x. (x.0, x.1.now)) result ((half_head header image).read bytes.now) }
-{
-    let (epoch, rest) = u64_at(bytes)?;
-    let ((version, count), rest) = mark_of(rest, header)?;
-    let (_, rest) = image_of(rest, image)?;
-    Ok((
-        HalfHead {
-            epoch,
-            version,
-            count,
-        },
-        rest,
-    ))
-}
-
 impl Layout {
-    /// What the head of a half says, by its 25 bytes. Damage is at mark and count, which are one field, or else at an
-    /// image length that isn't this layout's. Mark and count are damaged if the count is above 2^48, or the mark isn't
-    /// that of a version that may be under the header. Under one of version 01 a half may be of version 02 too, else only
-    /// of the header's version. Any epoch is valid.
+    /// The checksum of the image, before that of a head of version 03 with these fields.
+    fn sums_of<'a>(
+        &self,
+        half: Half,
+        epoch: u64,
+        count: u64,
+        bytes: &'a [u8],
+    ) -> Result<(u32, &'a [u8]), BytesLeft>
+        requires { count ≤ most_actions }
+        ensures { Gives (λ x. (x.0, x.1.now)) result
+            ((sums_field (head_sum self.now half V03 epoch count)).read bytes.now) }
+    {
+        let (sum, rest) = u32_at(bytes)?;
+        let (found, behind) = u32_at(rest)?;
+        let head = HalfHead {
+            epoch,
+            version: Version::V03,
+            count,
+            sum,
+        };
+        if found == self.head_sum(half, &head) {
+            Ok((sum, behind))
+        } else {
+            Err(BytesLeft(rest.len()))
+        }
+    }
+
+    /// The end of a head: the length of its image, or the checksums of image and head.
+    fn end_of<'a>(
+        &self,
+        half: Half,
+        version: Version,
+        epoch: u64,
+        count: u64,
+        bytes: &'a [u8],
+    ) -> Result<(u32, &'a [u8]), BytesLeft>
+        requires { count ≤ most_actions }
+        ensures { Gives (λ x. (x.0, x.1.now)) result
+            ((end_field self.now half version epoch count).read bytes.now) }
+    {
+        match version {
+            Version::V01 | Version::V02 => length_of(bytes, self.image_len()),
+            Version::V03 => self.sums_of(half, epoch, count, bytes),
+        }
+    }
+
+    /// All fields after the gate.
+    fn fields_of<'a>(&self, half: Half, bytes: &'a [u8]) -> Result<(HalfHead, &'a [u8]), BytesLeft>
+        ensures count { IfOk result (λ x. x.0.count ≤ most_actions) }
+        ensures allowed { IfOk result (λ x. allows self.now.version x.0.version ≡ true) }
+        ensures fields { Gives (λ x. (x.0, x.1.now)) result
+            ((half_head self.now half).read bytes.now) }
+    {
+        let (epoch, rest) = u64_at(bytes)?;
+        let ((version, count), rest) = mark_of(rest, self.version)?;
+        let (sum, rest) = self.end_of(half, version, epoch, count, rest)?;
+        Ok((
+            HalfHead {
+                epoch,
+                version,
+                count,
+                sum,
+            },
+            rest,
+        ))
+    }
+
+    /// What the head of a half says, by its 25 bytes.
+    ///
+    /// Damage is at mark and count, which are one field, or else at the last fields: an image length that isn't this
+    /// layout's, or in version 03 a checksum of the head that isn't its own. Mark and count are damaged if the count is above
+    /// 2^48, or the mark isn't that of a version that may be under the header. Under one of version 01 a half may be of
+    /// version 02 too, else only of the header's version. Any epoch is valid, and any checksum of the image.
     #[tactic(auto, unfolding(crate::specs::Opening::half_head_from))]
     pub fn read_half_head(&self, half: Half, bytes: &[u8]) -> Result<HalfHead, DeviceFault>
         requires { length bytes.now ≡ 25 }
@@ -125,7 +175,7 @@ impl Layout {
         ensures count { IfOk result (λ h. h.count ≤ most_actions) }
         ensures allowed { IfOk result (λ h. allows self.now.version h.version ≡ true) }
     {
-        match fields_of(&bytes[1..], self.version, self.image_len()) {
+        match self.fields_of(half, &bytes[1..]) {
             Ok((head, _)) => Ok(head),
             Err(left) => Err(DeviceFault::Damaged {
                 half: half.number(),

@@ -12,8 +12,7 @@ ghost use Rattle.alm_checkpoint.specs.Opening.{layout_from};
 use crate::device_fault::DeviceFault;
 use crate::layout::{HEADER_LEN, LONGEST_SEGMENT, Layout, SHORTEST_SEGMENT, device_name};
 use alm_codec::fields::{u16_at, u32_at, u64_at};
-use alm_codec::{BytesLeft, Version};
-use alm_segment::OPEN_GATE;
+use alm_codec::{BytesLeft, OPEN_GATE, Version};
 use alm_types::{MOST_ALARMS, MOST_AREAS};
 
 /// The version that the name gives.

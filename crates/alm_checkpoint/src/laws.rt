@@ -1,22 +1,23 @@
 //! Laws of what a device encodes: each function does nothing, and its contract is the law.
 
-ghost use Rattle.std.specs.Prelude.{◌≡◌, ◌+◌, ◌<◌, ◌≤◌, ◌^◌, ℕ, false, List, [], ◌∷◌, ◌++◌, length, Ok};
-ghost use Rattle.alm_types.specs.declared.action.Action.{Action};
+ghost use Rattle.std.specs.Prelude.{◌≡◌, ◌≢◌, ◌+◌, ◌<◌, ◌≤◌, ◌^◌, ℕ, true, false, All, List, [], ◌∷◌, ◌++◌, length, Some, Ok, Err};
 ghost use Rattle.alm_model.specs.Plant.{Condensed};
 ghost use Rattle.alm_model.specs.Step.{run};
 ghost use Rattle.alm_model.specs.Rules.{AreAdmitted};
 ghost use Rattle.alm_codec.specs.Frames.{IsFrame, frame_text};
+ghost use Rattle.alm_codec.specs.declared.version.Version.TheVariants.{V03};
 ghost use Rattle.alm_codec.specs.Reading.{IsBytes};
-ghost use Rattle.alm_codec.specs.Versions.{AreBorne, newer};
-ghost use Rattle.alm_segment.specs.Course.{is_gate_open};
+ghost use Rattle.alm_codec.specs.Versions.{AreBorne, is_open, newer};
+ghost use Rattle.alm_segment.specs.Texts.{Frame};
 ghost use Rattle.alm_checkpoint.specs.declared.device_fault.DeviceFault.{DeviceFault};
 ghost use Rattle.alm_checkpoint.specs.declared.half_head.HalfHead.{HalfHead};
 ghost use Rattle.alm_checkpoint.specs.declared.layout.Layout.{Layout};
-ghost use Rattle.alm_checkpoint.specs.Layouts.{device_len, half_len};
-ghost use Rattle.alm_checkpoint.specs.Headers.{header_text, half_head_text, IsHeadOf};
-ghost use Rattle.alm_checkpoint.specs.Opening.{layout_from};
-ghost use Rattle.alm_checkpoint.specs.Standing.{Stands, HasFault, Meaning, gate_place};
-ghost use Rattle.alm_checkpoint.specs.Cut.{Cut, IsLayout, Stores, Reaches, IsBelow, IsCut, half_text, device_of, with_frame, with_other, turned_cut};
+ghost use Rattle.alm_checkpoint.specs.declared.half.Half.{Half};
+ghost use Rattle.alm_checkpoint.specs.Layouts.{device_len, half_len, other, image_sum_at};
+ghost use Rattle.alm_checkpoint.specs.Headers.{header_text, half_head_text, image_sum, IsHeadOf};
+ghost use Rattle.alm_checkpoint.specs.Opening.{Opened, half_head_from, layout_from};
+ghost use Rattle.alm_checkpoint.specs.Standing.{Stands, HasFault, Meaning, gate_place, image_damage};
+ghost use Rattle.alm_checkpoint.specs.Cut.{Cut, IsLayout, Stores, Reaches, IsBelow, IsCut, OtherGates, half_text, device_of, with_frame, with_gates, with_other, turned_cut};
 
 /// No text of a header is a prefix of another's.
 pub fn no_header_begins_another()
@@ -26,10 +27,9 @@ pub fn no_header_begins_another()
 
 /// No text of a half's head is a prefix of another's of the same layout.
 pub fn no_head_begins_another()
-    ensures { (l : Layout) (a b : HalfHead) (x y : List ℕ) → IsLayout l → IsHeadOf l a →
-        IsHeadOf l b →
-        half_head_text l a.version a.epoch a.count ++ x ≡
-        half_head_text l b.version b.epoch b.count ++ y → a ≡ b }
+    ensures { (l : Layout) (h : Half) (a b : HalfHead) (x y : List ℕ) → IsLayout l →
+        IsHeadOf l a → IsHeadOf l b →
+        half_head_text l h a ++ x ≡ half_head_text l h b ++ y → a ≡ b }
 {}
 
 /// The text of a header, after its open gate, is read as its layout, on a device that holds both halves.
@@ -41,7 +41,7 @@ pub fn a_header_is_read()
 /// A device of these fields encodes the plant that they store, whatever follows the first closed gate.
 pub fn a_cut_stands()
     ensures { (c : Cut) (plant : Condensed) (gate : ℕ) (tail : List ℕ) → Stores c plant →
-        is_gate_open gate ≡ false → Reaches c (gate ∷ tail) →
+        is_open c.version gate ≡ false → Reaches c (gate ∷ tail) →
         Stands (device_of c (gate ∷ tail)) c.epoch plant }
 {}
 
@@ -54,29 +54,53 @@ pub fn what_stands_is_cut()
 /// If the gate after the frames is open and a frame follows whose actions the half's version has, they are the fields with that
 /// frame. They store the plant after its actions.
 pub fn a_frame_more()
-    ensures { (c : Cut) (plant : Condensed) (actions : List Action) (tail : List ℕ) →
-        Stores c plant → IsFrame c.epoch (plant.panel.count + 1) actions →
-        AreBorne c.version actions → AreAdmitted plant actions →
-        Stores (with_frame c actions) (run plant actions) ×
-        (device_of c (165 ∷ frame_text c.version c.epoch (plant.panel.count + 1) actions ++ tail) ≡
-        device_of (with_frame c actions) tail) }
+    ensures { (c : Cut) (plant : Condensed) (f : Frame) (tail : List ℕ) → Stores c plant →
+        is_open c.version f.gate ≡ true → IsFrame c.epoch (plant.panel.count + 1) f.actions →
+        AreBorne c.version f.actions → AreAdmitted plant f.actions →
+        Stores (with_frame c f) (run plant f.actions) × (device_of c
+        (f.gate ∷ frame_text c.version c.epoch (plant.panel.count + 1) f.actions ++ tail) ≡
+        device_of (with_frame c f) tail) }
 {}
 
-/// Whatever bytes are in the other half, the same plant is stored, as long as its gate is closed or its epoch is smaller.
+/// Whatever bytes are in the other half, the same plant is stored, as long as its gate is closed or its epoch is smaller. In
+/// version 03 an open gate needs a head that is whole.
 pub fn another_half()
     ensures { (c : Cut) (plant : Condensed) (bytes : List ℕ) → Stores c plant →
-        length bytes ≡ half_len c.layout → IsBelow c.epoch bytes →
+        length bytes ≡ half_len c.layout → IsBelow c.layout (other c.half) c.epoch bytes →
         Stores (with_other c bytes) plant }
 {}
 
 /// Let the other half have an open gate, the version that a checkpoint writes, the next epoch and an image of the stored plant.
 /// Then that half stands, and the same plant is stored.
 pub fn a_turn()
-    ensures { (c : Cut) (plant : Condensed) (tail new_tail : List ℕ) → Stores c plant →
-        Reaches c tail → c.epoch + 1 < 2 ^ 64 →
-        Stores (turned_cut c plant tail) plant ×
-        (device_of (with_other c (half_text c.layout (newer c.version) (c.epoch + 1) plant [] ++ new_tail)) tail ≡
-        device_of (turned_cut c plant tail) new_tail) }
+    ensures { (c : Cut) (plant : Condensed) (gate : ℕ) (tail new_tail : List ℕ) → Stores c plant →
+        is_open (newer c.version) gate ≡ true → Reaches c tail → c.epoch + 1 < 2 ^ 64 →
+        Stores (turned_cut c plant gate tail) plant × (device_of (with_other c (half_text c.layout
+        (other c.half) (newer c.version) gate (c.epoch + 1) plant [] ++ new_tail)) tail ≡
+        device_of (turned_cut c plant gate tail) new_tail) }
+{}
+
+/// Whatever open gates a half and its frames have, the same plant is stored. In version 03 every gate but 5A is open.
+pub fn other_gates()
+    ensures { (c : Cut) (plant : Condensed) (gate : ℕ) (frames : List Frame) → Stores c plant →
+        is_open c.version gate ≡ true → OtherGates c.version c.frames frames →
+        Stores (with_gates c gate frames) plant }
+{}
+
+/// A half's head of version 03 of which one byte was changed is damaged.
+pub fn a_changed_byte_of_a_head_is_damage()
+    ensures { (l : Layout) (h : Half) (t : HalfHead) (front back : List ℕ) (a b gate : ℕ) →
+        IsHeadOf l t → t.version ≡ V03 → half_head_text l h t ≡ front ++ a ∷ back →
+        IsBytes (front ++ b ∷ back) → b ≢ a →
+        (fault : DeviceFault) × (half_head_from l h (gate ∷ (front ++ b ∷ back)) ≡ Err fault) }
+{}
+
+/// An image of version 03 of which one byte was changed is damaged: its head says the checksum of the other bytes.
+pub fn a_changed_byte_of_an_image_is_damage()
+    ensures { (o : Opened) (front back : List ℕ) (a b : ℕ) → o.head.version ≡ V03 →
+        o.head.sum ≡ image_sum V03 (front ++ a ∷ back) → o.image ≡ front ++ b ∷ back →
+        All (λ n. n < 256) (front ++ a ∷ back) → All (λ n. n < 256) (front ++ b ∷ back) → b ≢ a →
+        image_damage o ≡ Some (image_sum_at o.layout o.half) }
 {}
 
 /// Bytes encode at most one plant, in one epoch.

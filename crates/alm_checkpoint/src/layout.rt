@@ -1,7 +1,7 @@
 //! The places of everything on a device.
 
 ghost use Rattle.std.specs.Prelude.{◌≡◌};
-ghost use Rattle.alm_checkpoint.specs.Layouts.{image_size, half_len, half_at, image_at, segment_at, device_len};
+ghost use Rattle.alm_checkpoint.specs.Layouts.{image_size, half_len, half_at, image_at, image_sum_at, segment_at, device_len};
 ghost use Rattle.alm_checkpoint.specs.Headers.{device_name};
 
 use crate::half::Half;
@@ -93,6 +93,13 @@ impl Layout {
         ensures { result ≡ image_at self.now half }
     {
         self.half_at(half) + HEAD_LEN as u64
+    }
+
+    /// The place of the checksum of a half's image: in its head, after epoch, mark and count.
+    pub fn image_sum_at(&self, half: Half) -> u64
+        ensures { result ≡ image_sum_at self.now half }
+    {
+        self.half_at(half) + 17
     }
 
     /// The start of the segment of a half.

@@ -8,7 +8,7 @@
 //!
 //! | offset | bytes | field of the header |
 //! |---|---|---|
-//! | 0 | 1 | gate |
+//! | 0 | 1 | gate: open at A5 alone |
 //! | 1 | 8 | `ALMSRV01`, `ALMSRV02` or `ALMSRV03`, by the version |
 //! | 9 | 4 | rows, 1 to 16,384 |
 //! | 13 | 2 | areas, 1 to 64 |
@@ -16,10 +16,10 @@
 //!
 //! | offset in a half | bytes | field |
 //! |---|---|---|
-//! | 0 | 1 | gate |
+//! | 0 | 1 | gate: open at A5 alone; in version 03 open at every value but 5A |
 //! | 1 | 8 | epoch |
 //! | 9 | 8 | mark and count: the mark of the half's version in the first byte, 0, 2 or 253, then how many actions made the plant of the image, at most 2^48 |
-//! | 17 | 8 | length of the image, I |
+//! | 17 | 8 | length of the image, I; in version 03 the checksums of image 4 and head 4 |
 //! | 25 | I | image |
 //! | 25 + I | L | segment |
 //!
@@ -28,8 +28,11 @@
 //!
 //! The first half begins at 23, the second after it. The half that stands is the one with an open gate; if both gates are open,
 //! the one with the greater epoch. Its image is that of a plant, and the frames of its segment up to the first closed gate make
-//! of it the plant that the device encodes. No other bytes are read. docs/develop/FORMAT.md gives each field's rule, and the place at
-//! which its fault is reported.
+//! of it the plant that the device encodes. No other bytes are read, but in version 03 the head of the other half, if its gate is
+//! open: both are whole. docs/develop/FORMAT.md gives each field's rule, and the place at which its fault is reported.
+//!
+//! The checksum of a head in version 03 is that of the header's bytes 1 to 22, the half's number (0 or 1), and the head's bytes
+//! 1 to 20. So a change in any of these fields is found, and so is a half in the other one's place.
 //!
 //! The definitions are in specs/:
 //!
@@ -47,20 +50,26 @@
 //! closed gate, or is in a half that doesn't stand, changes nothing.
 //!
 //! Only [`recover`] and [`Layout::restore`] take memory, and a fault `OutOfMemory` says nothing about the bytes. Not covered:
-//! that memory suffices, which tests show. There is no checksum: damage that breaks no rule is not found.
+//! that memory suffices, which tests show. Versions 01 and 02 have no checksum: damage that breaks no rule is not found. In
+//! version 03 a change of one byte is found but in gates. A frame's open gate that becomes 5A ends the journal there, as if its
+//! commit had not ended; so do bytes that were there earlier and come back whole.
 //!
 //! Proved:
 //! - every list of bytes holds exactly one plant in one epoch, or has exactly one fault; header and heads are written as
 //!   they are read (by `recover`, `Layout::restore`, `read_header`, `choose`, `laws`)
 //! - what lies after the first closed gate or in the other half changes nothing; the longest segment that fits twice (by
 //!   `laws`, `Layout::longest`)
+//! - in version 03 a head or an image of which one byte was changed is damaged, and whatever open gates there are, the same
+//!   plant stands (by `laws`)
 #![tactic(auto)]
 
 mod device_fault;
 mod half;
 mod half_gate;
 mod half_head;
+mod head_sum;
 mod header;
+mod heads;
 pub mod laws;
 mod layout;
 mod longest;
@@ -74,6 +83,7 @@ pub use device_fault::DeviceFault;
 pub use half::Half;
 pub use half_gate::{HalfGate, choose, read_half_gate};
 pub use half_head::HalfHead;
+pub use head_sum::image_sum;
 pub use header::read_header;
 pub use layout::{HEAD_LEN, HEADER_LEN, LONGEST_SEGMENT, Layout, SHORTEST_SEGMENT, device_name};
 pub use no_choice::NoChoice;

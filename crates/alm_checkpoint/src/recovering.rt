@@ -5,7 +5,6 @@ ghost use Rattle.alm_checkpoint.specs.Layouts.{part};
 ghost use Rattle.alm_checkpoint.specs.Restoring.{StandsIn, IsRefused};
 
 use crate::half::Half;
-use crate::half_gate::{choose, read_half_gate};
 use crate::header::read_header;
 use crate::layout::{HEAD_LEN, HEADER_LEN, Layout};
 use crate::restore_fault::RestoreFault;
@@ -39,7 +38,8 @@ fn part(bytes: &[u8], at: u64, n: usize) -> &[u8]
 }
 
 /// What the bytes of a whole device encode, or their first fault. Faults are checked in this order: the header, the choice
-/// between the halves, then the head, the image and the frames of the half that stands.
+/// between the halves, then the head of the half that stands, in version 03 that of the other half if its gate is open, then image
+/// and frames of the half that stands.
 pub fn recover<P: Alarms + Drop>(alloc: Global, device: &[u8]) -> Result<Recovered<P>, RestoreFault>
     ensures stands { IfOk result
         (λ r. StandsIn device.now r.layout r.half r.version r.epoch (P.plant r.plant) r.gate) }
@@ -50,14 +50,10 @@ pub fn recover<P: Alarms + Drop>(alloc: Global, device: &[u8]) -> Result<Recover
         Ok(layout) => layout,
         Err(fault) => return Err(RestoreFault::Damaged(fault)),
     };
-    let first = read_half_gate(part(device, layout.half_at(Half::First), HEAD_LEN));
-    let second = read_half_gate(part(device, layout.half_at(Half::Second), HEAD_LEN));
-    let half = match choose(&first, &second) {
-        Ok(half) => half,
-        Err(why) => return Err(RestoreFault::Damaged(why.fault(&layout))),
-    };
-    let head = match layout.read_half_head(half, part(device, layout.half_at(half), HEAD_LEN)) {
-        Ok(head) => head,
+    let first = part(device, layout.half_at(Half::First), HEAD_LEN);
+    let second = part(device, layout.half_at(Half::Second), HEAD_LEN);
+    let (half, head) = match layout.read_heads(first, second) {
+        Ok(heads) => heads,
         Err(fault) => return Err(RestoreFault::Damaged(fault)),
     };
     let image = part(device, layout.image_at(half), layout.image_len());

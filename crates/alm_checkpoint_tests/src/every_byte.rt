@@ -1,4 +1,4 @@
-//! Every byte of the worked device set in turn to 00, 01, 02, A5 and FF: opening reports what the second judge reports.
+//! Every byte of the worked device set in turn to 00, 01, 02, 5A, A5 and FF: opening reports what the second judge reports.
 
 use crate::judge::judged;
 use crate::worked::{device_of, open, set};
@@ -16,7 +16,7 @@ fn dispute_in(
     let mut bytes = device_of(alloc, version, 2, 800)?;
     for at in places {
         let old = *bytes.get(at).ok_or("place")?;
-        for byte in [0, 1, 2, 0xA5, 0xFF] {
+        for byte in [0, 1, 2, 0x5A, 0xA5, 0xFF] {
             set(&mut bytes, at, byte)?;
             if open(alloc, &bytes) != judged(&bytes) {
                 return Ok(Some(at));
@@ -36,6 +36,14 @@ fn header_and_head(rt: HostRuntime) -> Result<(), Fail> {
     assert_eq!(rt; first_dispute(rt.alloc(), 0..64)?, None);
     assert_eq!(rt; dispute_in(rt.alloc(), Version::V02, 0..64)?, None);
     assert_eq!(rt; dispute_in(rt.alloc(), Version::V03, 0..64)?, None);
+    Ok(())
+}
+
+#[test]
+fn frames_and_gates_of_version_03(rt: HostRuntime) -> Result<(), Fail> {
+    assert_eq!(rt; dispute_in(rt.alloc(), Version::V03, 9666..9676)?, None);
+    assert_eq!(rt; dispute_in(rt.alloc(), Version::V03, 10_394..10_470)?, None);
+    assert_eq!(rt; dispute_in(rt.alloc(), Version::V03, 14_509..14_536)?, None);
     Ok(())
 }
 

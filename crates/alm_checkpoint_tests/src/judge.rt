@@ -6,7 +6,7 @@
 
 use crate::judge_image::image;
 use crate::judge_journal::Journal;
-use crate::numbers::{byte, number, part, tail};
+use crate::numbers::{byte, checksum, number, part, register_after, tail};
 use crate::worked::Opened;
 use alm_checkpoint::{DeviceFault, Half};
 
@@ -18,11 +18,22 @@ pub struct Sizes {
     pub segment: u32,
     /// The marks that a half may have, the same twice if there is one alone.
     pub marks: (u8, u8),
+    /// Whether it is a device of version 03, which has checksums.
+    pub is_summed: bool,
 }
 
 impl Sizes {
     fn image(self) -> usize {
         16 + 4801 * self.areas as usize + 182 * self.rows as usize
+    }
+
+    /// Whether a gate of a half or of a frame is open.
+    pub fn is_open(self, gate: u8) -> bool {
+        if self.is_summed {
+            gate != 0x5A
+        } else {
+            gate == 0xA5
+        }
     }
 
     fn half(self) -> usize {
@@ -74,6 +85,7 @@ fn sizes_of(device: &[u8]) -> Result<Sizes, DeviceFault> {
         areas: areas as u16,
         segment: segment as u32,
         marks,
+        is_summed: marks.0 == 0xFD,
     };
     if sizes.half() > (device.len() - 23) / 2 {
         return Err(damaged(2, 15));
@@ -85,7 +97,10 @@ fn sizes_of(device: &[u8]) -> Result<Sizes, DeviceFault> {
 fn standing(device: &[u8], sizes: Sizes) -> Result<(Half, usize), DeviceFault> {
     let second = sizes.half().saturating_add(23);
     let epochs = (number(device, 24, 8), number(tail(device, second), 1, 8));
-    match (byte(device, 23) == 0xA5, byte(device, second) == 0xA5) {
+    match (
+        sizes.is_open(byte(device, 23)),
+        sizes.is_open(byte(device, second)),
+    ) {
         (false, false) => Err(damaged(2, 23)),
         (true, false) => Ok((Half::First, 23)),
         (false, true) => Ok((Half::Second, second)),
@@ -101,18 +116,47 @@ fn standing(device: &[u8], sizes: Sizes) -> Result<(Half, usize), DeviceFault> {
     }
 }
 
+/// The place in a half of the first fault of its head.
+fn head_fault(device: &[u8], start: usize, sizes: Sizes) -> Option<usize> {
+    let bytes = tail(device, start);
+    let mark = byte(bytes, 9);
+    if number(bytes, 10, 7) > 1 << 48 || (mark != sizes.marks.0 && mark != sizes.marks.1) {
+        return Some(9);
+    }
+    if !sizes.is_summed {
+        return (number(bytes, 17, 8) != sizes.image() as u64).then_some(17);
+    }
+    let half = [if start == 23 { 0u8 } else { 1 }];
+    let register = register_after(register_after(0xFFFF_FFFF, part(device, 1, 22)), &half);
+    let found = register_after(register, part(bytes, 1, 20)) ^ 0xFFFF_FFFF;
+    (number(bytes, 21, 4) != found as u64).then_some(21)
+}
+
+/// The damage of the heads: of the half that stands, else in version 03 of the other one, if its gate is open.
+fn heads(device: &[u8], sizes: Sizes, which: Half, start: usize) -> Result<(), DeviceFault> {
+    let second = sizes.half().saturating_add(23);
+    let own = if which == Half::First { 0 } else { 1 };
+    if let Some(at) = head_fault(device, start, sizes) {
+        return Err(damaged(own, at.saturating_add(start)));
+    }
+    let other = if own == 0 { second } else { 23 };
+    if !sizes.is_summed || !sizes.is_open(byte(device, other)) {
+        return Ok(());
+    }
+    match head_fault(device, other, sizes) {
+        Some(at) => Err(damaged(1 - own, at.saturating_add(other))),
+        None => Ok(()),
+    }
+}
+
 /// The count after the journal of a half, and the place of its first closed gate in the half; or the place of its first
 /// fault.
 fn counted(bytes: &[u8], sizes: Sizes) -> Result<(u64, usize), usize> {
     let count = number(bytes, 10, 7);
-    let mark = byte(bytes, 9);
-    if count > 1 << 48 || (mark != sizes.marks.0 && mark != sizes.marks.1) {
-        return Err(9);
-    }
-    if number(bytes, 17, 8) != sizes.image() as u64 {
+    let stored = part(bytes, 25, sizes.image());
+    if sizes.is_summed && number(bytes, 17, 4) != checksum(stored, &[]) {
         return Err(17);
     }
-    let stored = part(bytes, 25, sizes.image());
     if let Err(at) = image(stored, sizes, count) {
         return Err(at.saturating_add(25));
     }
@@ -127,6 +171,7 @@ fn counted(bytes: &[u8], sizes: Sizes) -> Result<(u64, usize), usize> {
 fn found(device: &[u8]) -> Result<Opened, DeviceFault> {
     let sizes = sizes_of(device)?;
     let (which, start) = standing(device, sizes)?;
+    heads(device, sizes, which, start)?;
     let bytes = tail(device, start);
     match counted(bytes, sizes) {
         Ok((count, gate)) => Ok(Opened::Stands {

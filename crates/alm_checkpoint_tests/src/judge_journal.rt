@@ -1,13 +1,13 @@
 //! The second judge's way through the frames of a segment.
 
 use crate::judge::Sizes;
-use crate::numbers::{byte, first_broken, is_value, number, part, tail};
+use crate::numbers::{byte, checksum, first_broken, is_value, number, part, tail};
 
 /// What the frames need of the plant: the attributes in its image, its clock and which alarms are active.
 #[derive(Drop)]
 pub struct Journal<'a> {
     alarms: &'a [u8],
-    rows: u16,
+    sizes: Sizes,
     epoch: u64,
     count: u64,
     now: u64,
@@ -42,7 +42,7 @@ impl<'a> Journal<'a> {
         }
         Journal {
             alarms,
-            rows: sizes.rows,
+            sizes,
             epoch,
             count,
             now: number(image, 0, 8),
@@ -52,7 +52,7 @@ impl<'a> Journal<'a> {
 
     /// Does `VALUE` if it changes the condition of an alarm.
     fn value(&mut self, row: u64, argument: u64) -> bool {
-        if row >= self.rows as u64 || row >= 64 {
+        if row >= self.sizes.rows as u64 || row >= 64 {
             return false;
         }
         let alarm = tail(self.alarms, 182 * row as usize);
@@ -87,8 +87,33 @@ impl<'a> Journal<'a> {
         }
     }
 
+    /// The same in version 03.
+    fn summed_head(&self, frame: &[u8]) -> Result<u16, usize> {
+        let units = number(frame, 13, 2);
+        let actions = units / 255;
+        let len = actions.saturating_mul(16).saturating_add(20);
+        let first = self.count.saturating_add(1) % (1 << 32);
+        first_broken(&[
+            (frame.len() >= 9 && number(frame, 1, 8) == self.epoch, 1),
+            (frame.len() >= 13 && number(frame, 9, 4) == first, 9),
+            (
+                units % 255 == 0 && actions >= 1 && actions <= 256 && frame.len() as u64 >= len,
+                13,
+            ),
+        ])?;
+        let few = if actions <= 256 { actions as u16 } else { 0 };
+        let texts = part(frame, 19, 16 * few as usize);
+        if number(frame, 15, 4) != checksum(part(frame, 1, 14), texts) {
+            return Err(15);
+        }
+        Ok(few)
+    }
+
     /// How many actions a frame has, whose fields follow its gate.
     fn head(&self, frame: &[u8]) -> Result<u16, usize> {
+        if self.sizes.is_summed {
+            return self.summed_head(frame);
+        }
         let actions = number(frame, 17, 2);
         let len = actions.saturating_mul(16).saturating_add(20);
         first_broken(&[
@@ -123,7 +148,10 @@ impl<'a> Journal<'a> {
     pub fn follow(mut self, segment: &[u8]) -> Result<(u64, usize), usize> {
         let mut at = 0usize;
         for _ in 0..segment.len() {
-            if byte(segment, at) != 0xA5 {
+            if at >= segment.len() {
+                return Err(at);
+            }
+            if !self.sizes.is_open(byte(segment, at)) {
                 break;
             }
             match self.frame(tail(segment, at)) {

@@ -27,6 +27,28 @@ pub fn number(bytes: &[u8], at: usize, len: usize) -> u64 {
     number
 }
 
+/// The register of CRC-32C after these bytes more, bit by bit.
+pub fn register_after(register: u32, bytes: &[u8]) -> u32 {
+    let mut register = register;
+    for byte in bytes {
+        register ^= *byte as u32;
+        for _ in 0..8 {
+            let is_odd = register % 2 == 1;
+            register >>= 1;
+            if is_odd {
+                register ^= 0x82F6_3B78;
+            }
+        }
+    }
+    register
+}
+
+/// CRC-32C of two texts, one after the other.
+pub fn checksum(front: &[u8], back: &[u8]) -> u64 {
+    let register = register_after(register_after(0xFFFF_FFFF, front), back);
+    (register ^ 0xFFFF_FFFF) as u64
+}
+
 /// Whether a number in two's complement is between -10^12 and 10^12.
 pub fn is_value(number: u64) -> bool {
     number <= 1_000_000_000_000 || 0u64.wrapping_sub(number) <= 1_000_000_000_000

@@ -1,15 +1,17 @@
 //! The worked device.
 
-use alm_checkpoint::{DeviceFault, Half, HalfHead, Layout, RestoreFault, recover};
-use alm_codec::{Version, image_len, write_frame_body, write_image};
+use alm_checkpoint::{DeviceFault, Half, HalfHead, Layout, RestoreFault, image_sum, recover};
+use alm_codec::{OPEN_GATE, Version, image_len, write_frame_body, write_image};
 use alm_model::{Alarms, PlainPlant};
-use alm_segment::OPEN_GATE;
 use alm_types::{Action, AlarmId, Attr, Kind, Moment, Reading, Settings, Table};
 use std::alloc::Global;
 use std::test::Fail;
 
 /// How many bytes the device has.
 const SIZE: usize = 28_997;
+
+/// Where its second half begins, with a closed gate.
+const SECOND: usize = 14_510;
 
 /// A high alarm of the first priority in the first area.
 const HIGH: Settings = Settings {
@@ -94,7 +96,7 @@ pub fn value(alarm: u32, value: i64) -> Result<Action, Fail> {
 /// Puts a frame of one action of epoch 1 after the others, and opens its gate.
 fn commit(device: &mut Vec<u8>, version: Version, first: u64, action: Action) -> Result<(), Fail> {
     let mut body = [0; 35];
-    write_frame_body(version, 1, first, &[action], &mut body);
+    write_frame_body(1, first, &[action], &mut body, version);
     device.push(OPEN_GATE)?;
     device.extend_from_slice(&body[..34])?;
     Ok(())
@@ -111,22 +113,23 @@ fn put_front(alloc: Global, device: &mut Vec<u8>, version: Version) -> Result<()
     let mut header = [0; 22];
     layout.write_header(&mut header);
     let mut head = [0; 24];
+    let image = image::<PlainPlant>(alloc)?;
     let first = HalfHead {
         epoch: 1,
         version,
         count: 0,
+        sum: image_sum(version, &image),
     };
-    layout.write_half_head(&first, &mut head);
+    layout.write_half_head(Half::First, &first, &mut head);
     device.push(OPEN_GATE)?;
     device.extend_from_slice(&header)?;
     device.push(OPEN_GATE)?;
     device.extend_from_slice(&head)?;
-    let image = image::<PlainPlant>(alloc)?;
     device.extend_from_slice(&image)?;
     Ok(())
 }
 
-/// The commits, and zeros after them.
+/// The commits, and zeros after them; the gates that follow are closed.
 fn put_commits(
     device: &mut Vec<u8>,
     version: Version,
@@ -139,10 +142,11 @@ fn put_commits(
     if commits > 1 {
         commit(device, version, 2, value(0, reading)?)?;
     }
+    device.push(version.closed_gate())?;
     for _ in device.len()..SIZE {
         device.push(0)?;
     }
-    Ok(())
+    set(device, SECOND, version.closed_gate())
 }
 
 /// The same of a version.

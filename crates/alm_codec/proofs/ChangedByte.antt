@@ -20,13 +20,13 @@ use Rattle.alm_codec.proofs.Frames.{frame_there, text_length}
 
 -- ---- a list with one place that differs
 
-take_into : (front back : List ℕ) (a n k : ℕ) → n ≡ length front + 1 + k → take n (front ++ a ∷ back) ≡ front ++ a ∷ take k back
+pub take_into : (front back : List ℕ) (a n k : ℕ) → n ≡ length front + 1 + k → take n (front ++ a ∷ back) ≡ front ++ a ∷ take k back
 take_into [] back a zero k is = absurd (omega (arith, is))
 take_into [] back a (suc n) k is = let same : n ≡ k = omega (arith, is) in ap (λ m. a ∷ take m back) same
 take_into (f ∷ front) back a zero k is = absurd (omega (arith, is))
 take_into (f ∷ front) back a (suc n) k is = ap (λ (l : List ℕ). f ∷ l) (take_into front back a n k (omega (arith, is)))
 
-drop_into : (front back : List ℕ) (a n k : ℕ) → n ≡ length front + 1 + k → drop n (front ++ a ∷ back) ≡ drop k back
+pub drop_into : (front back : List ℕ) (a n k : ℕ) → n ≡ length front + 1 + k → drop n (front ++ a ∷ back) ≡ drop k back
 drop_into [] back a zero k is = absurd (omega (arith, is))
 drop_into [] back a (suc n) k is = let same : n ≡ k = omega (arith, is) in ap (λ m. drop m back) same
 drop_into (f ∷ front) back a zero k is = absurd (omega (arith, is))
@@ -48,10 +48,10 @@ same_sum : (t u : List ℕ) → AreBytes t → AreBytes u → sum_text V03 t ≡
 same_sum t u p q e =
     sym (from_be_bytes-to_be_bytes_4 (checksum_of t) (checksum_lt t p)) ∙ ap (from_be_bytes w32) e ∙ from_be_bytes-to_be_bytes_4 (checksum_of u) (checksum_lt u q)
 
-head_is : (a b : ℕ) (k l : List ℕ) → a ∷ k ≡ b ∷ l → a ≡ b
+pub head_is : (a b : ℕ) (k l : List ℕ) → a ∷ k ≡ b ∷ l → a ≡ b
 head_is a b k l e = cc e
 
-one_change : (front back : List ℕ) (a b : ℕ) → AreBytes (front ++ a ∷ back) → AreBytes (front ++ b ∷ back) → checksum_of (front ++ a ∷ back) ≡ checksum_of (front ++ b ∷ back) → a ≡ b
+pub one_change : (front back : List ℕ) (a b : ℕ) → AreBytes (front ++ a ∷ back) → AreBytes (front ++ b ∷ back) → checksum_of (front ++ a ∷ back) ≡ checksum_of (front ++ b ∷ back) → a ≡ b
 one_change front back a b p q e =
     let left = halves front (a ∷ back) (recursion_from_All IsByte (front ++ a ∷ back) p) in
     let right = halves front (b ∷ back) (recursion_from_All IsByte (front ++ b ∷ back) q) in

@@ -1,5 +1,5 @@
 -- The fields of frames are bytes, and so is their checksum.
-use Rattle.std.proofs.Common.{ℕ, ◌*◌, ◌%◌, ◌^◌, ◌<◌, List, [], ◌∷◌, ◌++◌, All, length, arith}
+use Rattle.std.proofs.Common.{ℕ, ◌*◌, ◌%◌, ◌^◌, ◌<◌, List, [], ◌∷◌, ◌++◌, length, arith}
 use Rattle.std.specs.List.{flat_map, AllByRecursion}
 use Rattle.std.specs.Int.{w16, w32, w64, to_be_bytes}
 use Rattle.std.proofs.lemmas.Nat.{xor_lt}
@@ -17,10 +17,10 @@ use Rattle.alm_sum.proofs.Changes.{after_lt}
 pub both : (x y : List ℕ) → AreBytes x → AreBytes y → AreBytes (x ++ y)
 both x y p q = All-append IsByte x y p q
 
-two : (n : ℕ) → AreBytes (to_be_bytes w16 n)
+pub two : (n : ℕ) → AreBytes (to_be_bytes w16 n)
 two n = All-from_recursion IsByte (to_be_bytes w16 n) (omega arith, (omega arith, tt))
 
-eight : (n : ℕ) → AreBytes (to_be_bytes w64 n)
+pub eight : (n : ℕ) → AreBytes (to_be_bytes w64 n)
 eight n = All-from_recursion IsByte (to_be_bytes w64 n) (omega arith, (omega arith, (omega arith, (omega arith, (omega arith, (omega arith, (omega arith, (omega arith, tt))))))))
 
 kind_lt : (a : Action) → kind_of a < 256
@@ -42,7 +42,7 @@ pub texts_bytes : (list : List Action) → AreBytes (flat_map action_text list)
 texts_bytes [] = All-from_recursion IsByte [] tt
 texts_bytes (a ∷ list) = both (action_text a) (flat_map action_text list) (All-from_recursion IsByte (action_text a) (one a)) (texts_bytes list)
 
-four : (n : ℕ) → AreBytes (to_be_bytes w32 n)
+pub four : (n : ℕ) → AreBytes (to_be_bytes w32 n)
 four n = All-from_recursion IsByte (to_be_bytes w32 n) (omega arith, (omega arith, (omega arith, (omega arith, tt))))
 
 first_bytes : (version : Version) (first : ℕ) → AreBytes (first_text version first)

@@ -1,5 +1,5 @@
 -- The head of a frame that is read is the one that was written, and what was written is read again.
-use Rattle.std.proofs.Common.{◌≡◌, ℕ, ◌+◌, ◌-◌, ◌*◌, ◌/◌, ◌%◌, ◌^◌, ◌≤◌, ◌<◌, Bool, true, false, cond, ◌&&◌, eqb, ltb, leb, List, [], ◌∷◌, ◌++◌, length, take, drop, Result, Ok, Err, inl, inr, refl, sym, ap, subst, ◌∙◌, append_assoc, arith}
+use Rattle.std.proofs.Common.{◌≡◌, ℕ, ◌+◌, ◌-◌, ◌*◌, ◌/◌, ◌%◌, ◌^◌, ◌≤◌, ◌<◌, Bool, true, false, cond, ◌&&◌, eqb, ltb, leb, List, [], ◌++◌, length, take, drop, Result, Ok, Err, inl, inr, refl, sym, ap, subst, ◌∙◌, append_assoc, arith}
 use Rattle.std.specs.Int.{Width, w16, w32, w64, byte_len, from_be_bytes, to_be_bytes}
 use Rattle.std.proofs.lemmas.List.{length-append, take_at, drop_at, drop-drop}
 use Rattle.std.proofs.lemmas.Bool.{eqb-true, leb-true, ltb-true, eq-eqb, le-leb, lt-ltb, and_parts, and_from}
@@ -8,7 +8,7 @@ use Rattle.alm_codec.specs.declared.version.Version.{Version}
 use Rattle.alm_codec.specs.declared.version.Version.TheVariants.{V01, V02, V03}
 use Rattle.alm_codec.specs.Versions.{sum_len, sum_text}
 use Rattle.alm_codec.specs.Reading.{IsBytes, ◌>>=◌, number_at, field_at}
-use Rattle.alm_codec.specs.Frames.{count_unit, counted, count_at, first_at, first_text, frame_head, head_at, head_len, shown, sum_at}
+use Rattle.alm_codec.specs.Frames.{count_unit, counted, count_at, first_at, first_text, frame_head, head_at, frame_head_len, shown, sum_at}
 use Rattle.alm_codec.proofs.Bytes.{chosen}
 use Rattle.alm_codec.proofs.Numbers.{bind_ok, test_ok, guard_ok, ok_is, Takes, Takes-then, wide16, wide32, wide64, number_takes, number_again, field_takes, field_again}
 
@@ -143,12 +143,12 @@ first_again V03 first rest lt =
 
 -- ---- heads
 
-pub head_long : (version : Version) (epoch first n : ℕ) → length (frame_head version epoch first n) ≡ head_len version
+pub head_long : (version : Version) (epoch first n : ℕ) → length (frame_head version epoch first n) ≡ frame_head_len version
 head_long V01 epoch first n = refl
 head_long V02 epoch first n = refl
 head_long V03 epoch first n = refl
 
-pub with_sum_long : (version : Version) → head_len version + sum_len version ≡ 18
+pub with_sum_long : (version : Version) → frame_head_len version + sum_len version ≡ 18
 with_sum_long V01 = refl
 with_sum_long V02 = refl
 with_sum_long V03 = refl
@@ -164,19 +164,19 @@ pub record Heads (version : Version) (epoch count : ℕ) (bytes : List ℕ) (x :
 pub head_takes : (version : Version) (epoch count : ℕ) (bytes : List ℕ) (x : ℕ × List ℕ) → IsBytes bytes → head_at version epoch count bytes ≡ Ok x → Heads version epoch count bytes x
 unfolding head_at
 head_takes version epoch count bytes x fits e =
-    let a = bind_ok (field_at w64 (λ n. eqb n epoch) bytes) (λ e. first_at version (count + 1) e.1 >>= λ f. count_at version f.1 >>= λ n. sum_at version (take (head_len version) bytes) n) x e in
-    let b = bind_ok (first_at version (count + 1) a.0.1) (λ f. count_at version f.1 >>= λ n. sum_at version (take (head_len version) bytes) n) x a.2 in
-    let d = bind_ok (count_at version b.0.1) (λ n. sum_at version (take (head_len version) bytes) n) x b.2 in
+    let a = bind_ok (field_at w64 (λ n. eqb n epoch) bytes) (λ e. first_at version (count + 1) e.1 >>= λ f. count_at version f.1 >>= λ n. sum_at version (take (frame_head_len version) bytes) n) x e in
+    let b = bind_ok (first_at version (count + 1) a.0.1) (λ f. count_at version f.1 >>= λ n. sum_at version (take (frame_head_len version) bytes) n) x a.2 in
+    let d = bind_ok (count_at version b.0.1) (λ n. sum_at version (take (frame_head_len version) bytes) n) x b.2 in
     let t = field_takes w64 (2 ^ 64) wide64 (λ n. eqb n epoch) bytes a.0.0 a.0.1 fits a.1 in
     let u = first_takes version (count + 1) a.0.1 b.0 t.0.rest_fits b.1 in
     let v = count_takes version b.0.1 d.0 u.taken.rest_fits d.1 in
-    let s = sum_takes version (take (head_len version) bytes) d.0 x v.taken.rest_fits d.2 in
+    let s = sum_takes version (take (frame_head_len version) bytes) d.0 x v.taken.rest_fits d.2 in
     let epoch-is : a.0.0 ≡ epoch = eqb-true a.0.0 epoch t.2 in
     let two = Takes-then bytes (to_be_bytes w64 a.0.0) a.0.1 (first_text version (count + 1)) b.0.1 t.0 u.taken in
     let three = Takes-then bytes (to_be_bytes w64 a.0.0 ++ first_text version (count + 1)) b.0.1 (to_be_bytes w16 (count_unit version * d.0.0)) d.0.1 two v.taken in
     let at_first = subst (λ (k : ℕ). Takes bytes (to_be_bytes w64 k ++ first_text version (count + 1) ++ to_be_bytes w16 (count_unit version * d.0.0)) d.0.1) epoch-is three in
     let head : Takes bytes (frame_head version epoch (count + 1) x.0) d.0.1 = subst (λ (k : ℕ). Takes bytes (frame_head version epoch (count + 1) k) d.0.1) (sym s.same) at_first in
-    let front : take (head_len version) bytes ≡ frame_head version epoch (count + 1) x.0 = ap (take (head_len version)) head.parts ∙ take_at (frame_head version epoch (count + 1) x.0) d.0.1 (head_len version) (head_long version epoch (count + 1) x.0) in
+    let front : take (frame_head_len version) bytes ≡ frame_head version epoch (count + 1) x.0 = ap (take (frame_head_len version)) head.parts ∙ take_at (frame_head version epoch (count + 1) x.0) d.0.1 (frame_head_len version) (head_long version epoch (count + 1) x.0) in
     let sum : Takes d.0.1 (sum_text version (frame_head version epoch (count + 1) x.0 ++ take (16 * x.0) x.1)) x.1 =
     subst (λ (h : List ℕ). Takes d.0.1 (sum_text version (h ++ take (16 * x.0) x.1)) x.1) front s.taken in
     let text : List ℕ = sum_text version (frame_head version epoch (count + 1) x.0 ++ take (16 * x.0) x.1) in
@@ -209,10 +209,10 @@ head_again version epoch count n texts rest e f some few long more lt =
     let epoch_read : field_at w64 (λ n. eqb n epoch) bytes ≡ Ok (epoch, middle) = ap (field_at w64 (λ n. eqb n epoch)) grouped ∙ field_again w64 (2 ^ 64) wide64 (λ n. eqb n epoch) epoch middle e (eq-eqb epoch epoch refl) in
     let first_read : first_at version (count + 1) middle ≡ Ok (shown version (count + 1), last) = first_again version (count + 1) last f in
     let count_read : count_at version last ≡ Ok (n, behind) = count_again version n behind some few (omega (arith, size, more)) in
-    let front : take (head_len version) bytes ≡ head = take_at head behind (head_len version) (head_long version epoch (count + 1) n) in
-    ap (λ r. r >>= λ e. first_at version (count + 1) e.1 >>= λ f. count_at version f.1 >>= λ n. sum_at version (take (head_len version) bytes) n) epoch_read
-    ∙ ap (λ r. r >>= λ f. count_at version f.1 >>= λ n. sum_at version (take (head_len version) bytes) n) first_read
-    ∙ ap (λ r. r >>= λ n. sum_at version (take (head_len version) bytes) n) count_read
+    let front : take (frame_head_len version) bytes ≡ head = take_at head behind (frame_head_len version) (head_long version epoch (count + 1) n) in
+    ap (λ r. r >>= λ e. first_at version (count + 1) e.1 >>= λ f. count_at version f.1 >>= λ n. sum_at version (take (frame_head_len version) bytes) n) epoch_read
+    ∙ ap (λ r. r >>= λ f. count_at version f.1 >>= λ n. sum_at version (take (frame_head_len version) bytes) n) first_read
+    ∙ ap (λ r. r >>= λ n. sum_at version (take (frame_head_len version) bytes) n) count_read
     ∙ ap (λ (h : List ℕ). sum_at version h (n, behind)) front
     ∙ sum_again version head texts rest n long lt
 
@@ -256,9 +256,9 @@ all_dropped V03 bytes = ap (λ (l : List ℕ). drop 4 (drop 2 l)) (drop-drop 4 8
 pub head_rest : (version : Version) (epoch count : ℕ) (bytes : List ℕ) (x : ℕ × List ℕ) → head_at version epoch count bytes ≡ Ok x → x.1 ≡ drop 18 bytes
 unfolding head_at
 head_rest version epoch count bytes x e =
-    let a = bind_ok (field_at w64 (λ n. eqb n epoch) bytes) (λ e. first_at version (count + 1) e.1 >>= λ f. count_at version f.1 >>= λ n. sum_at version (take (head_len version) bytes) n) x e in
-    let b = bind_ok (first_at version (count + 1) a.0.1) (λ f. count_at version f.1 >>= λ n. sum_at version (take (head_len version) bytes) n) x a.2 in
-    let d = bind_ok (count_at version b.0.1) (λ n. sum_at version (take (head_len version) bytes) n) x b.2 in
-    sum_rest version (take (head_len version) bytes) d.0 x d.2
+    let a = bind_ok (field_at w64 (λ n. eqb n epoch) bytes) (λ e. first_at version (count + 1) e.1 >>= λ f. count_at version f.1 >>= λ n. sum_at version (take (frame_head_len version) bytes) n) x e in
+    let b = bind_ok (first_at version (count + 1) a.0.1) (λ f. count_at version f.1 >>= λ n. sum_at version (take (frame_head_len version) bytes) n) x a.2 in
+    let d = bind_ok (count_at version b.0.1) (λ n. sum_at version (take (frame_head_len version) bytes) n) x b.2 in
+    sum_rest version (take (frame_head_len version) bytes) d.0 x d.2
     ∙ ap (drop (sum_len version)) (count_rest version b.0.1 d.0 d.1 ∙ ap (drop 2) (first_rest version (count + 1) a.0.1 b.0 b.1) ∙ ap (λ (l : List ℕ). drop 2 (drop (8 - sum_len version) l)) (rest_of w64 (λ n. eqb n epoch) bytes a.0 a.1))
     ∙ all_dropped version bytes

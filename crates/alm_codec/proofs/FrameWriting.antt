@@ -8,8 +8,8 @@ use Rattle.alm_types.specs.declared.action.Action.{Action}
 use Rattle.alm_types.specs.Actions.{IsAction}
 use Rattle.alm_codec.specs.Actions.{action_text}
 use Rattle.alm_codec.specs.declared.version.Version.{Version}
-use Rattle.alm_codec.specs.Versions.{sum_text}
-use Rattle.alm_codec.specs.Frames.{frame_head, frame_text, frame_body, head_len}
+use Rattle.alm_codec.specs.Versions.{closed_gate, sum_text}
+use Rattle.alm_codec.specs.Frames.{frame_head, frame_text, frame_body, frame_head_len}
 use Rattle.alm_codec.specs.Writing.{Wrote}
 use Rattle.alm_codec.proofs.Writing.{Wrote-then}
 
@@ -50,19 +50,19 @@ head_then_texts a b c texts head n size p q low room =
 pub body_is : (version : Version) (old one two three new : List ℕ) (epoch first : ℕ) (list : List Action)
     → 19 + 16 * length list ≤ length old
     → Wrote old one 18 (18 + 16 * length list) (flat_map action_text list)
-    → Wrote one two 0 (head_len version) (frame_head version epoch first (length list))
-    → Wrote two three (head_len version) 18 (sum_text version (take (head_len version) two ++ take (16 * length list) (drop 18 two)))
-    → Wrote three new (18 + 16 * length list) (18 + 16 * length list + 1) (0 ∷ [])
+    → Wrote one two 0 (frame_head_len version) (frame_head version epoch first (length list))
+    → Wrote two three (frame_head_len version) 18 (sum_text version (take (frame_head_len version) two ++ take (16 * length list) (drop 18 two)))
+    → Wrote three new (18 + 16 * length list) (18 + 16 * length list + 1) (closed_gate version ∷ [])
     → new ≡ frame_body version epoch first list ++ drop (19 + 16 * length list) old
 body_is version old one two three new epoch first list room texts head sum gate =
     let end : ℕ = 18 + 16 * length list in
     let h : List ℕ = frame_head version epoch first (length list) in
     let long : length one ≡ length old = Wrote-length old one 18 end (flat_map action_text list) texts (omega (arith, room)) in
-    let is = head_then_texts old one two (flat_map action_text list) h (head_len version) (16 * length list) texts head (omega arith) (omega (arith, room)) in
-    let s : Wrote two three (head_len version) 18 (sum_text version (h ++ flat_map action_text list)) =
-    subst (λ (t : List ℕ). Wrote two three (head_len version) 18 (sum_text version t)) (λ i. is.0 i ++ is.1 i) sum in
-    let front : Wrote one three 0 18 (h ++ sum_text version (h ++ flat_map action_text list)) = Wrote-then one two three 0 (head_len version) 18 h (sum_text version (h ++ flat_map action_text list)) head s (omega (arith, room, long)) in
+    let is = head_then_texts old one two (flat_map action_text list) h (frame_head_len version) (16 * length list) texts head (omega arith) (omega (arith, room)) in
+    let s : Wrote two three (frame_head_len version) 18 (sum_text version (h ++ flat_map action_text list)) =
+    subst (λ (t : List ℕ). Wrote two three (frame_head_len version) 18 (sum_text version t)) (λ i. is.0 i ++ is.1 i) sum in
+    let front : Wrote one three 0 18 (h ++ sum_text version (h ++ flat_map action_text list)) = Wrote-then one two three 0 (frame_head_len version) 18 h (sum_text version (h ++ flat_map action_text list)) head s (omega (arith, room, long)) in
     let all : Wrote old three 0 end (frame_text version epoch first list) = Wrote-before old one three 18 end (h ++ sum_text version (h ++ flat_map action_text list)) (flat_map action_text list) texts front (omega (arith, room)) in
-    let body = Wrote-then old three new 0 end (end + 1) (frame_text version epoch first list) (0 ∷ []) all gate (omega (arith, room)) in
+    let body = Wrote-then old three new 0 end (end + 1) (frame_text version epoch first list) (closed_gate version ∷ []) all gate (omega (arith, room)) in
     let next : end + 1 ≡ 19 + 16 * length list = omega arith in
     body.is ∙ ap (λ (k : ℕ). frame_body version epoch first list ++ drop k old) next

@@ -1,5 +1,5 @@
 -- What there is in a version.
-use Rattle.std.specs.Prelude.{◌≡◌, ℕ, List, [], Bool, true, false, All, Option, Some, None, if◌then◌else◌}
+use Rattle.std.specs.Prelude.{◌≡◌, ℕ, List, [], Bool, true, false, not, All, Option, Some, None, ◌==◌, if◌then◌else◌}
 use Rattle.std.specs.Int.{w32, to_be_bytes}
 use Rattle.alm_types.specs.declared.action.Action.{Action}
 use Rattle.alm_types.specs.declared.action.Action.TheVariants.{SetPriority, SetSetpoint}
@@ -41,6 +41,18 @@ AreBorne version actions = All (IsBorne version) actions
 abbrev pub borne : Version → Option Action → Option Action
 borne version None = None
 borne version (Some a) = if bears version a then Some a else None
+
+-- a gate is open at one value alone; in version 03 it is closed at one value alone
+abbrev pub is_open : Version → ℕ → Bool
+is_open V01 gate = gate == 165
+is_open V02 gate = gate == 165
+is_open V03 gate = not (gate == 90)
+
+-- a gate that is written closed
+abbrev pub closed_gate : Version → ℕ
+closed_gate V01 = 0
+closed_gate V02 = 0
+closed_gate V03 = 90
 
 -- version 03 has checksums, of four bytes each
 abbrev pub sum_text : Version → List ℕ → List ℕ

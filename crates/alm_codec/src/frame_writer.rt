@@ -5,7 +5,7 @@ ghost use Rattle.std.specs.List.{flat_map};
 ghost use Rattle.alm_types.specs.Actions.{IsAction};
 ghost use Rattle.alm_types.specs.Sizes.{most_entries};
 ghost use Rattle.alm_codec.specs.Actions.{action_text};
-ghost use Rattle.alm_codec.specs.Frames.{IsFrame, count_unit, first_text, frame_body, frame_head, head_len};
+ghost use Rattle.alm_codec.specs.Frames.{IsFrame, count_unit, first_text, frame_body, frame_head, frame_head_len};
 ghost use Rattle.alm_codec.specs.Versions.{sum_len, sum_text};
 ghost use Rattle.alm_codec.specs.Writing.{Wrote};
 
@@ -57,7 +57,7 @@ fn put_first(out: &mut [u8], at: usize, version: Version, first: u64) -> usize
 fn put_head(out: &mut [u8], version: Version, epoch: u64, first: u64, actions: u16)
     requires few { actions ≤ most_entries }
     requires room { 18 ≤ length out.old }
-    ensures { Wrote out.old out.new 0 (head_len version) (frame_head version epoch first actions) }
+    ensures { Wrote out.old out.new 0 (frame_head_len version) (frame_head version epoch first actions) }
 {
     let first_at = put(out, 0, &epoch.to_be_bytes());
     let count_at = put_first(out, first_at, version, first);
@@ -67,8 +67,8 @@ fn put_head(out: &mut [u8], version: Version, epoch: u64, first: u64, actions: u
 /// Writes the checksum of the head before it and of the actions after it, where the version has checksums.
 fn put_sum(out: &mut [u8], version: Version, actions: usize)
     requires { 18 + actions ≤ length out.old }
-    ensures { Wrote out.old out.new (head_len version) 18 (sum_text version
-        (take (head_len version) out.old ++ take actions (drop 18 out.old))) }
+    ensures { Wrote out.old out.new (frame_head_len version) 18 (sum_text version
+        (take (frame_head_len version) out.old ++ take actions (drop 18 out.old))) }
 {
     match version {
         Version::V01 | Version::V02 => {}
@@ -82,13 +82,13 @@ fn put_sum(out: &mut [u8], version: Version, actions: usize)
     }
 }
 
-/// Writes a frame's body, without its gate: the next gate is closed.
+/// Writes a frame's body in a version, without its gate: the next gate is closed.
 pub fn write_frame_body(
-    version: Version,
     epoch: u64,
     first: u64,
     actions: &[Action],
     out: &mut [u8],
+    version: Version,
 )
     requires some { 1 ≤ length actions.now }
     requires few { length actions.now ≤ most_entries }
@@ -100,5 +100,5 @@ pub fn write_frame_body(
     let end = put_actions(out, HEAD_LEN, actions);
     put_head(out, version, epoch, first, actions.len() as u16);
     put_sum(out, version, 16 * actions.len());
-    put(out, end, &[0]);
+    put(out, end, &[version.closed_gate()]);
 }

@@ -64,4 +64,4 @@ pub use frame_writer::write_frame_body;
 pub use image_fault::ImageFault;
 pub use image_reader::read_image;
 pub use image_writer::{image_len, write_image};
-pub use version::Version;
+pub use version::{OPEN_GATE, Version};

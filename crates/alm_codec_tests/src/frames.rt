@@ -20,7 +20,7 @@ fn frames_are_written_and_read(rt: HostRuntime) -> Result<(), Fail> {
     let mut actions = Vec::with_capacity(rt.alloc(), MOST_ENTRIES)?;
     let mut out = [9; 36];
     let clock = Action::Clock(Moment::new(1000).ok_or("moment")?);
-    write_frame_body(Version::V02, 1, 1, &[clock], &mut out);
+    write_frame_body(1, 1, &[clock], &mut out, Version::V02);
     assert!(rt; out[..35] == CLOCK_FRAME[..] && out[35] == 9);
     assert_eq!(rt;
         read_frame(&CLOCK_FRAME, 1, 0, &mut actions, Version::V02),
@@ -28,7 +28,7 @@ fn frames_are_written_and_read(rt: HostRuntime) -> Result<(), Fail> {
     );
     assert_eq!(rt; actions.as_slice(), [clock].as_slice());
     let value = Action::Value(AlarmId(0), Reading::new(800).ok_or("reading")?);
-    write_frame_body(Version::V02, 1, 2, &[value], &mut out);
+    write_frame_body(1, 2, &[value], &mut out, Version::V02);
     assert!(rt; out[..35] == VALUE_FRAME[..]);
     assert_eq!(rt;
         read_frame(&VALUE_FRAME, 1, 1, &mut actions, Version::V02),
@@ -84,7 +84,7 @@ fn a_frame_of_version_02(rt: HostRuntime) -> Result<(), Fail> {
     let mut actions = Vec::with_capacity(rt.alloc(), MOST_ENTRIES)?;
     let mut out = [9; 35];
     let priorities = [Action::SetPriority(AlarmId(0), 3)];
-    write_frame_body(Version::V02, 2, 3, &priorities, &mut out);
+    write_frame_body(2, 3, &priorities, &mut out, Version::V02);
     assert!(rt; out[..] == PRIORITY_FRAME[..]);
     assert_eq!(rt;
         read_frame(&PRIORITY_FRAME, 2, 2, &mut actions, Version::V02),
@@ -104,7 +104,7 @@ fn the_longest_frame(rt: HostRuntime) -> Result<(), Fail> {
     let mut actions = Vec::with_capacity(rt.alloc(), MOST_ENTRIES)?;
     let all = [Action::Ack(AlarmId(7)); 256];
     let mut out = [0; 4115];
-    write_frame_body(Version::V02, u64::MAX, 5, &all, &mut out);
+    write_frame_body(u64::MAX, 5, &all, &mut out, Version::V02);
     assert_eq!(rt;
         read_frame(&out, u64::MAX, 4, &mut actions, Version::V02),
         Ok(4114)
@@ -121,7 +121,7 @@ fn the_longest_frame(rt: HostRuntime) -> Result<(), Fail> {
 /// A frame of CLOCK 1000 in version 03, without its gate: its checksum is at 14. With the next gate closed.
 const SUMMED_FRAME: [u8; 35] = [
     0, 0, 0, 0, 0, 0, 0, 1, 0, 0, 0, 1, 0, 255, 0x13, 0xe5, 0xc8, 0xa0, 1, 0, 0, 0, 0, 0, 0, 0, 0,
-    0, 0, 0, 0, 0, 3, 0xe8, 0,
+    0, 0, 0, 0, 0, 3, 0xe8, 0x5a,
 ];
 
 #[test]
@@ -129,7 +129,7 @@ fn a_frame_of_version_03(rt: HostRuntime) -> Result<(), Fail> {
     let mut actions = Vec::with_capacity(rt.alloc(), MOST_ENTRIES)?;
     let mut out = [9; 36];
     let clock = Action::Clock(Moment::new(1000).ok_or("moment")?);
-    write_frame_body(Version::V03, 1, 1, &[clock], &mut out);
+    write_frame_body(1, 1, &[clock], &mut out, Version::V03);
     assert!(rt; out[..35] == SUMMED_FRAME[..] && out[35] == 9);
     assert_eq!(rt;
         read_frame(&SUMMED_FRAME, 1, 0, &mut actions, Version::V03),
@@ -179,7 +179,7 @@ fn the_longest_frame_of_version_03(rt: HostRuntime) -> Result<(), Fail> {
     let mut actions = Vec::with_capacity(rt.alloc(), MOST_ENTRIES)?;
     let all = [Action::Ack(AlarmId(7)); 256];
     let mut out = [0; 4115];
-    write_frame_body(Version::V03, u64::MAX, 5, &all, &mut out);
+    write_frame_body(u64::MAX, 5, &all, &mut out, Version::V03);
     assert!(rt; out[8..18] == LONGEST_HEAD[..]);
     assert_eq!(rt;
         read_frame(&out, u64::MAX, 4, &mut actions, Version::V03),

@@ -1,6 +1,6 @@
 -- A commit between the pieces of an open checkpoint.
-use Rattle.std.proofs.Common.{◌≡◌, ◌≢◌, inl, inr, ◌⊎◌, ℕ, ◌+◌, ◌*◌, ◌≤◌, false, nat_lt, nat_le, List, [], ◌∷◌, ◌++◌, length, take, drop, refl, sym, ◌∙◌, ap, subst, arith, length-append}
-use Rattle.std.proofs.lemmas.Bool.{ne_eqb, eqb-false, and_parts, leb-true, ltb-true, cases_Bool}
+use Rattle.std.proofs.Common.{◌≡◌, inl, inr, ◌⊎◌, ℕ, ◌+◌, ◌*◌, ◌≤◌, false, nat_lt, nat_le, List, [], ◌∷◌, ◌++◌, length, take, drop, refl, sym, ◌∙◌, ap, subst, arith, length-append}
+use Rattle.std.proofs.lemmas.Bool.{and_parts, leb-true, ltb-true, cases_Bool}
 use Rattle.std.proofs.lemmas.List.{ext_get_or}
 use Rattle.alm_types.specs.declared.action.Action.{Action}
 use Rattle.alm_model.specs.Plant.{Condensed}
@@ -8,7 +8,7 @@ use Rattle.alm_model.specs.Rules.{AreAdmitted}
 use Rattle.alm_codec.specs.Frames.{IsFrame, frame_body}
 use Rattle.alm_disk.specs.Device.{DeviceState, is_within}
 use Rattle.alm_disk.specs.Device.{IsImage as IsLeft}
-use Rattle.alm_segment.specs.Course.{is_gate_open}
+use Rattle.alm_codec.specs.Versions.{closed_gate, is_open, newer}
 use Rattle.alm_checkpoint.specs.Layouts.{half_len}
 use Rattle.alm_checkpoint.specs.Cut.{Cut, Stores, Reaches, front, back}
 use Rattle.alm_checkpoint.specs.Cut.{device_of}
@@ -36,17 +36,17 @@ loose_blind a n (inl zero) b c is beside = subst (Ready a) (sym (ext_get_or 0 c 
 loose_blind a n (inr x) b c is beside = ready_blind a n x.0 x.1 b c is beside
 
 module _ (c : Cut) (plant : Condensed) (actions : List Action) (gate : ℕ) (tail : List ℕ) (stores : Stores c plant) (frame : IsFrame c.epoch (plant.panel.count + 1) actions) (admitted : AreAdmitted plant actions)
-    (closed : is_gate_open gate ≡ false) (reaches : Reaches c (gate ∷ tail)) (takes : TakesFrame (account_of c plant) actions) where
+    (closed : is_open c.version gate ≡ false) (reaches : Reaches c (gate ∷ tail)) (takes : TakesFrame (account_of c plant) actions) where
   abbrev size : ℕ
   size = 19 + 16 * length actions
 
-  held : (g : ℕ) → g ≢ 165 → (left : List ℕ) → length left ≡ length (take size tail) → Ready (account_of c plant) (front c ++ (g ∷ left) ++ (drop size tail ++ back c))
+  held : (g : ℕ) → is_open c.version g ≡ false → (left : List ℕ) → length left ≡ length (take size tail) → Ready (account_of c plant) (front c ++ (g ∷ left) ++ (drop size tail ++ back c))
   held g shut left long = record {
     cut = c;
     is = refl;
     stores = stores;
     gate = g;
-    closed = ne_eqb g 165 shut;
+    closed = shut;
     tail = left ++ drop size tail;
     reaches = omega (
       arith,
@@ -62,6 +62,7 @@ module _ (c : Cut) (plant : Condensed) (actions : List Action) (gate : ℕ) (tai
   pub guarded : (loose : ℕ) → Loosely (account_of c plant) loose
       → Guarded (is_sent (account_of c plant) loose) (Ready (account_of c plant)) (Ready (with_commit (account_of c plant) actions)) (length (front c)) (frame_body c.version c.epoch (plant.panel.count + 1) actions)
   guarded loose is = record {
+    version = c.version;
     front = front c;
     room = take size tail;
     back = drop size tail ++ back c;
@@ -79,7 +80,7 @@ module _ (c : Cut) (plant : Condensed) (actions : List Action) (gate : ℕ) (tai
   begun loose is state b shown images rests =
       let here : b ≡ front c ++ (gate ∷ take size tail) ++ (drop size tail ++ back c) =
       shown ∙ ap (λ (t : List ℕ). front c ++ (gate ∷ t) ++ back c) (sym (parts c plant actions gate tail stores frame admitted closed reaches takes)) ∙ sym (regroup (front c) (take size tail) (drop size tail) (back c) gate) in
-      record { images = images; stands = (guarded loose is, gate, eqb-false gate 165 closed, subst (RestsBut (is_sent (account_of c plant) loose) state) here rests) }
+      record { images = images; stands = (guarded loose is, gate, closed, subst (RestsBut (is_sent (account_of c plant) loose) state) here rests) }
 
 -- a commit is begun, with or without an open checkpoint
 pub begins : (a : Account) (actions : List Action) (loose : ℕ) (state : DeviceState) (b : List ℕ) → Loosely a loose → IsFrame a.epoch (a.plant.panel.count + 1) actions → AreAdmitted a.plant actions → TakesFrame a actions
@@ -94,4 +95,4 @@ begins a actions loose state b is frame admitted takes images r rests =
 pub between : (a : Account) (k : Copy) (actions : List Action) (state : DeviceState) → IsCopy a k → a.gate + 1 ≤ end_of_half a → Paused a k state → IsFrame a.epoch (a.plant.panel.count + 1) actions → AreAdmitted a.plant actions → TakesFrame a actions
     → Kept (is_sent a k.out) (Ready a) (Ready (with_commit a actions)) Body state a.gate (frame_body a.version a.epoch (a.plant.panel.count + 1) actions)
 between a k actions state copy gate p frame admitted takes =
-    begins a actions k.out state p.bytes (inr (copy.shut, omega (arith, copy.left, run_fits a k copy gate, length-append (open_text a k) (0 ∷ [])))) frame admitted takes p.images p.ready p.rests
+    begins a actions k.out state p.bytes (inr (copy.shut, omega (arith, copy.left, run_fits a k copy gate, length-append (open_text a k) (closed_gate (newer a.version) ∷ [])))) frame admitted takes p.images p.ready p.rests

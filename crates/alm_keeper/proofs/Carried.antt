@@ -1,7 +1,7 @@
 -- What a commit between pieces carries over: what went out, and the copy.
 use Rattle.std.proofs.Common.{◌≡◌, ℕ, ◌+◌, ◌*◌, ◌^◌, ◌≤◌, ◌<◌, Bool, false, List, [], ◌∷◌, ◌++◌, length, take, drop, Result, Ok, sym, ◌∙◌, ap, subst, arith, append_assoc, length-append, length-drop}
 use Rattle.std.proofs.lemmas.List.{ext_get_or, get_or-take, get_or-drop, length-take-le, take-append-le}
-use Rattle.alm_codec.specs.Versions.{newer}
+use Rattle.alm_codec.specs.Versions.{closed_gate, newer}
 use Rattle.alm_types.specs.declared.action.Action.{Action}
 use Rattle.alm_model.specs.Plant.{Condensed}
 use Rattle.alm_model.specs.Step.{run}
@@ -11,18 +11,20 @@ use Rattle.alm_codec.specs.Image.{image_text}
 use Rattle.alm_disk.specs.Device.{DeviceState, Writes, Syncs, is_within}
 use Rattle.alm_disk.specs.Device.{byte_at as byte_of}
 use Rattle.alm_disk.proofs.Places.{below, above}
-use Rattle.alm_segment.specs.Texts.{actions_in}
+use Rattle.alm_segment.specs.Texts.{written, actions_in}
 use Rattle.alm_segment.proofs.Pushed.{actions_pushed, text_pushed, frames_pushed}
 use Rattle.alm_checkpoint.specs.declared.half.Half.{Half}
 use Rattle.alm_checkpoint.specs.declared.half.Half.TheVariants.{First, Second}
 use Rattle.alm_checkpoint.specs.declared.layout.Layout.{Layout}
 use Rattle.alm_checkpoint.specs.Layouts.{part, half_at, half_len, other}
+use Rattle.alm_checkpoint.specs.Cut.{head_before}
 use Rattle.alm_checkpoint.specs.Headers.{half_head_text}
 use Rattle.alm_keeper.specs.Stand.{Account, Ready, end_of_half, other_at, with_commit}
 use Rattle.alm_keeper.specs.Resting.{RestsBut, Kept}
 use Rattle.alm_keeper.specs.declared.stage.Stage.TheVariants.{Idle}
 use Rattle.alm_keeper.specs.Piecewise.{Copy, since_text, open_text, run_text, IsCopy, is_sent, WrotePart, Paused, with_copied_frame}
 use Rattle.alm_keeper.proofs.Devices.{frame_long}
+use Rattle.alm_keeper.proofs.Gates.{written_open}
 use Rattle.alm_model.proofs.Runs.{admitted_join, run_append, run_count}
 
 part_same : (at m : ℕ) (b c : List ℕ) → length c ≡ length b → at + m ≤ length b → ((place : ℕ) → at ≤ place → place < at + m → byte_of c place ≡ byte_of b place) → part at m c ≡ part at m b
@@ -65,14 +67,14 @@ module _ (a : Account) (k : Copy) (actions : List Action) (copy : IsCopy a k) wh
 
   since_grows : since_text (with_commit a actions) (with_copied_frame k actions) ≡ since_text a k ++ frame
   unfolding frame
-  since_grows = text_pushed (newer a.version) (a.epoch + 1) k.base.panel.count k.since actions
+  since_grows = text_pushed (newer a.version) (a.epoch + 1) k.base.panel.count k.since (written actions)
 
   pub since_long : length (since_text (with_commit a actions) (with_copied_frame k actions)) ≡ length (since_text a k) + (19 + 16 * length actions)
   unfolding frame
   since_long = omega (arith, ap length since_grows, length-append (since_text a k) frame, frame_long (newer a.version) (a.epoch + 1) (k.base.panel.count + length (actions_in k.since) + 1) actions)
 
   abbrev start : List ℕ
-  start = half_head_text a.layout (newer a.version) (a.epoch + 1) k.base.panel.count ++ image_text k.base
+  start = half_head_text a.layout (other a.half) (head_before (newer a.version) (a.epoch + 1) k.base) ++ image_text k.base
 
   pub open_grows : open_text (with_commit a actions) (with_copied_frame k actions) ≡ open_text a k ++ frame
   open_grows = ap (λ (t : List ℕ). start ++ t) since_grows ∙ sym (append_assoc start (since_text a k) frame)
@@ -80,9 +82,9 @@ module _ (a : Account) (k : Copy) (actions : List Action) (copy : IsCopy a k) wh
   -- what went out is a prefix of the longer run as well
   pub same_front : take k.out (run_text a k) ≡ take k.out (run_text (with_commit a actions) (with_copied_frame k actions))
   same_front =
-      take-append-le k.out (open_text a k) (0 ∷ []) copy.left
-      ∙ sym (take-append-le k.out (open_text a k) (frame ++ 0 ∷ []) copy.left)
-      ∙ ap (take k.out) (sym (append_assoc (open_text a k) frame (0 ∷ [])) ∙ ap (λ (t : List ℕ). t ++ 0 ∷ []) (sym open_grows))
+      take-append-le k.out (open_text a k) (closed_gate (newer a.version) ∷ []) copy.left
+      ∙ sym (take-append-le k.out (open_text a k) (frame ++ closed_gate (newer a.version) ∷ []) copy.left)
+      ∙ ap (take k.out) (sym (append_assoc (open_text a k) frame (closed_gate (newer a.version) ∷ [])) ∙ ap (λ (t : List ℕ). t ++ closed_gate (newer a.version) ∷ []) (sym open_grows))
 
   pub still : IsFrame a.epoch (a.plant.panel.count + 1) actions → AreAdmitted a.plant actions → IsCopy (with_commit a actions) (with_copied_frame k actions)
   still spelled admitted = record {
@@ -90,10 +92,10 @@ module _ (a : Account) (k : Copy) (actions : List Action) (copy : IsCopy a k) wh
     image = copy.image;
     sizes = copy.sizes;
     count = copy.count;
-    frames = frames_pushed (a.epoch + 1) k.base.panel.count k.since actions copy.frames
+    frames = frames_pushed (newer a.version) (a.epoch + 1) k.base.panel.count k.since (written actions) copy.frames (written_open (newer a.version))
         (record { fits = (copy.more, subst (λ (n : ℕ). n + 1 < 2 ^ 64) counted spelled.fits.1); some = spelled.some; few = spelled.few; limits = spelled.limits });
-    admitted = subst (AreAdmitted k.base) (sym (actions_pushed k.since actions)) (admitted_join k.base (actions_in k.since) actions copy.admitted (subst (λ (q : Condensed). AreAdmitted q actions) (sym copy.runs) admitted));
-    runs = ap (run k.base) (actions_pushed k.since actions) ∙ run_append k.base (actions_in k.since) actions ∙ ap (λ (q : Condensed). run q actions) copy.runs;
+    admitted = subst (AreAdmitted k.base) (sym (actions_pushed k.since (written actions))) (admitted_join k.base (actions_in k.since) actions copy.admitted (subst (λ (q : Condensed). AreAdmitted q actions) (sym copy.runs) admitted));
+    runs = ap (run k.base) (actions_pushed k.since (written actions)) ∙ run_append k.base (actions_in k.since) actions ∙ ap (λ (q : Condensed). run q actions) copy.runs;
     room = omega (arith, copy.room, since_long);
     shut = copy.shut;
     left = omega (arith, copy.left, ap length open_grows, length-append (open_text a k) frame);

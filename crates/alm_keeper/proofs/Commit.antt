@@ -1,5 +1,5 @@
 -- The bytes of a commit: its frame after the gate of the half that stands.
-use Rattle.std.proofs.Common.{◌≡◌, ℕ, ◌+◌, ◌*◌, ◌≤◌, false, List, [], ◌∷◌, ◌++◌, length, take, drop, refl, sym, ◌∙◌, ap, arith, append_assoc, length-append, length-drop, take-append-drop}
+use Rattle.std.proofs.Common.{◌≡◌, ℕ, ◌+◌, ◌*◌, ◌≤◌, true, false, List, [], ◌∷◌, ◌++◌, length, take, drop, sym, ◌∙◌, ap, arith, append_assoc, length-append, length-drop, take-append-drop}
 use Rattle.std.proofs.lemmas.List.{length-take-le}
 use Rattle.alm_types.specs.declared.action.Action.{Action}
 use Rattle.alm_model.specs.Plant.{Condensed}
@@ -7,27 +7,28 @@ use Rattle.alm_model.specs.Step.{run}
 use Rattle.alm_model.specs.Rules.{AreAdmitted}
 use Rattle.alm_codec.specs.declared.version.Version.{Version}
 use Rattle.alm_codec.specs.Frames.{IsFrame, frame_text, frame_body}
-use Rattle.alm_segment.specs.Course.{is_gate_open}
+use Rattle.alm_codec.specs.Versions.{is_open, closed_gate}
 use Rattle.alm_checkpoint.specs.Cut.{Cut, Stores, Reaches, front, back, with_frame}
 use Rattle.alm_checkpoint.proofs.Grown.{pushes, reaches_pushed, stores_pushed, gate_at}
 use Rattle.alm_keeper.specs.Stand.{HoldsPlant, Account, account_of, Ready, TakesFrame, with_commit}
 use Rattle.alm_keeper.proofs.Devices.{frame_long}
+use Rattle.alm_keeper.proofs.Gates.{closed_shut}
 
 regroup : (f m l b : List ℕ) (g : ℕ) → f ++ (g ∷ m) ++ (l ++ b) ≡ f ++ (g ∷ (m ++ l)) ++ b
 regroup f m l b g = simp append_assoc
 
-regroup_body : (f t l b : List ℕ) → f ++ (165 ∷ (t ++ 0 ∷ [])) ++ (l ++ b) ≡ f ++ (165 ∷ t ++ (0 ∷ l)) ++ b
-regroup_body f t l b = simp append_assoc
+regroup_body : (g z : ℕ) (f t l b : List ℕ) → f ++ (g ∷ (t ++ z ∷ [])) ++ (l ++ b) ≡ f ++ (g ∷ t ++ (z ∷ l)) ++ b
+regroup_body g z f t l b = simp append_assoc
 
 -- what is held, by the account
 pub ready_holds : (a : Account) (b : List ℕ) → Ready a b → HoldsPlant a.epoch a.plant b
 ready_holds a b r = record { cut = r.cut; in_epoch = sym (ap (λ (x : Account). x.epoch) r.is); stores = r.stores; gate = r.gate; closed = r.closed; tail = r.tail; reaches = r.reaches; text = r.text }
 
 pub body_long : (v : Version) (e n : ℕ) (actions : List Action) → length (frame_body v e n actions) ≡ 19 + 16 * length actions
-body_long v e n actions = omega (arith, frame_long v e n actions, length-append (frame_text v e n actions) (0 ∷ []))
+body_long v e n actions = omega (arith, frame_long v e n actions, length-append (frame_text v e n actions) (closed_gate v ∷ []))
 
 module _ (c : Cut) (plant : Condensed) (actions : List Action) (gate : ℕ) (tail : List ℕ) (stores : Stores c plant) (frame : IsFrame c.epoch (plant.panel.count + 1) actions) (admitted : AreAdmitted plant actions)
-    (closed : is_gate_open gate ≡ false) (reaches : Reaches c (gate ∷ tail)) (takes : TakesFrame (account_of c plant) actions) where
+    (closed : is_open c.version gate ≡ false) (reaches : Reaches c (gate ∷ tail)) (takes : TakesFrame (account_of c plant) actions) where
   abbrev pub n : ℕ
   n = 19 + 16 * length actions
 
@@ -49,23 +50,31 @@ module _ (c : Cut) (plant : Condensed) (actions : List Action) (gate : ℕ) (tai
   abbrev t : List ℕ
   t = frame_text c.version c.epoch (plant.panel.count + 1) actions
 
-  grown : Stores (with_frame c actions) (run plant actions)
-  grown = stores_pushed c plant actions stores frame takes.1 admitted
+  -- with any open gate
+  module _ (own : ℕ) (opened : is_open c.version own ≡ true) where
+    abbrev grown_cut : Cut
+    grown_cut = with_frame c (record { gate = own; actions = actions })
 
-  grown_reaches : Reaches (with_frame c actions) (0 ∷ drop n tail)
-  grown_reaches = reaches_pushed c plant actions (0 ∷ drop n tail) stores (omega (arith, reaches, left_long, length-append (165 ∷ t) (0 ∷ drop n tail), frame_long c.version c.epoch (plant.panel.count + 1) actions))
+    abbrev next : ℕ
+    next = closed_gate c.version
 
-  pub ready : Ready (with_commit (account_of c plant) actions) (front c ++ (165 ∷ text) ++ (drop n tail ++ back c))
-  ready =
-      let place : length (front c) + (19 + 16 * length actions) ≡ length (front (with_frame c actions)) =
-      omega (arith, gate_at c plant (gate ∷ tail) stores reaches, gate_at (with_frame c actions) (run plant actions) (0 ∷ drop n tail) grown grown_reaches, left_long) in
-      record {
-        cut = with_frame c actions;
-        is = ap (λ (g : ℕ). record (account_of c plant) { gate = g; plant = run plant actions }) place;
-        stores = grown;
-        gate = 0;
-        closed = refl;
-        tail = drop n tail;
-        reaches = grown_reaches;
-        text = regroup_body (front c) t (drop n tail) (back c) ∙ pushes c plant actions (0 ∷ drop n tail) stores;
-      }
+    grown : Stores grown_cut (run plant actions)
+    grown = stores_pushed c plant (record { gate = own; actions = actions }) stores opened frame takes.1 admitted
+
+    grown_reaches : Reaches grown_cut (next ∷ drop n tail)
+    grown_reaches = reaches_pushed c plant (record { gate = own; actions = actions }) (next ∷ drop n tail) stores (omega (arith, reaches, left_long, length-append (own ∷ t) (next ∷ drop n tail), frame_long c.version c.epoch (plant.panel.count + 1) actions))
+
+    pub ready : Ready (with_commit (account_of c plant) actions) (front c ++ (own ∷ text) ++ (drop n tail ++ back c))
+    ready =
+        let place : length (front c) + (19 + 16 * length actions) ≡ length (front grown_cut) =
+        omega (arith, gate_at c plant (gate ∷ tail) stores reaches, gate_at grown_cut (run plant actions) (next ∷ drop n tail) grown grown_reaches, left_long) in
+        record {
+          cut = grown_cut;
+          is = ap (λ (g : ℕ). record (account_of c plant) { gate = g; plant = run plant actions }) place;
+          stores = grown;
+          gate = next;
+          closed = closed_shut c.version;
+          tail = drop n tail;
+          reaches = grown_reaches;
+          text = regroup_body own next (front c) t (drop n tail) (back c) ∙ pushes c plant (record { gate = own; actions = actions }) (next ∷ drop n tail) stores;
+        }

@@ -5,7 +5,7 @@ use Rattle.std.proofs.lemmas.Bool.{cases_eq, ne_eqb, or_parts}
 use Rattle.alm_disk.specs.Device.{DeviceState, IsImage, Writes, Syncs, is_within}
 use Rattle.alm_disk.specs.Settled.{IsSettled}
 use Rattle.alm_disk.proofs.Images.{settled_image, written_image, synced_image}
-use Rattle.alm_segment.specs.Course.{is_gate_open}
+use Rattle.alm_checkpoint.specs.Layouts.{is_header_open}
 use Rattle.alm_checkpoint.specs.Layouts.{layout_byte}
 use Rattle.alm_checkpoint.specs.declared.layout.Layout.{Layout}
 use Rattle.alm_keeper.specs.Formatting.{IsUnformatted, LeavesBefore, with_empty_half, with_open_gate, MayBe}
@@ -38,7 +38,7 @@ gate_image result state new (g ∷ b) c long settled writes image =
     by_mid (h ∷ []) short is = subst (λ (x : List ℕ). IsUnformatted x ⊎ (x ≡ 165 ∷ b)) (sym is) (by_gate h b)
     by_mid (h ∷ i ∷ mid) short is = absurd (omega arith)
 
-pub gate_moments : {E : Type 0} (result : Result Unit E) (state new : DeviceState) (b c : List ℕ) → 1 ≤ length b → IsSettled state b → is_gate_open (layout_byte b 0) ≡ false → Writes 0 (165 ∷ []) result state new
+pub gate_moments : {E : Type 0} (result : Result Unit E) (state new : DeviceState) (b c : List ℕ) → 1 ≤ length b → IsSettled state b → is_header_open (layout_byte b 0) ≡ false → Writes 0 (165 ∷ []) result state new
     → IsImage state c ⊎ IsImage new c → IsUnformatted c ⊎ (c ≡ with_open_gate b)
 gate_moments result state new b c long settled closed writes moment =
     ⊎_elim (λ image. inl (subst IsUnformatted (sym (settled_image state b c settled image)) (unformatted b closed))) (gate_image result state new b c long settled writes) moment

@@ -3,7 +3,7 @@ use Rattle.std.proofs.Common.{◌≡◌, inl, inr, ⊎_elim, ℕ, suc, ◌+◌, 
 use Rattle.std.proofs.lemmas.Bool.{leb-true, le-leb, and_parts, and_from}
 use Rattle.std.proofs.lemmas.List.{append-nil, length-take-le, take_at, drop_at, length-replicate}
 use Rattle.std.proofs.lemmas.List.Elements.{All-nil}
-use Rattle.alm_codec.specs.Versions.{IsBorne}
+use Rattle.alm_codec.specs.Versions.{closed_gate, IsBorne}
 use Rattle.alm_codec.specs.declared.version.Version.{Version}
 use Rattle.alm_codec.specs.declared.version.Version.TheVariants.{V01, V02, V03}
 use Rattle.alm_types.specs.Tables.{Listing, IsTable}
@@ -15,9 +15,13 @@ use Rattle.alm_codec.proofs.Spelled.{image_length}
 use Rattle.alm_disk.specs.Device.{DeviceState}
 use Rattle.alm_checkpoint.specs.declared.layout.Layout.{Layout}
 use Rattle.alm_checkpoint.specs.declared.half.Half.TheVariants.{First, Second}
+use Rattle.alm_checkpoint.specs.declared.half_head.HalfHead.{HalfHead}
 use Rattle.alm_checkpoint.specs.Layouts.{half_at, half_len, image_size, device_len, is_rows, is_areas, is_segment}
 use Rattle.alm_checkpoint.specs.Headers.{header_text, half_head_text, of_rows, allows}
-use Rattle.alm_checkpoint.specs.Cut.{Cut, IsLayout, Stores, device_of}
+use Rattle.alm_checkpoint.specs.Cut.{Cut, IsLayout, Stores, head_before, device_of}
+use Rattle.alm_checkpoint.proofs.HeaderLaws.{head_long}
+use Rattle.alm_checkpoint.proofs.Turned.{shut_beside}
+use Rattle.alm_keeper.proofs.Gates.{closed_shut, written_open}
 use Rattle.alm_checkpoint.proofs.Shown.{shown, shown_opens}
 use Rattle.alm_segment.proofs.Segments.{folds}
 use Rattle.alm_keeper.specs.Formatting.{IsLongest, IsNewDevice, IsWritten, Leaves, LeavesOf, overwritten, with_empty_half, with_open_gate, first_half, IsOfVersion}
@@ -113,41 +117,44 @@ g2 a h m s g r = simp append_assoc
 g3 : (a h m s g r : List ℕ) → (a ++ h) ++ m ++ (s ++ (g ++ r)) ≡ (a ++ h ++ m ++ s) ++ g ++ r
 g3 a h m s g r = simp append_assoc
 
-g4 : (a h m s g r : List ℕ) → (a ++ h ++ (0 ∷ m) ++ s) ++ g ++ r ≡ (a ++ h) ++ (0 ∷ []) ++ (m ++ (s ++ (g ++ r)))
-g4 a h m s g r = simp append_assoc
+g4 : (z : ℕ) (a h m s g r : List ℕ) → (a ++ h ++ (z ∷ m) ++ s) ++ g ++ r ≡ (a ++ h) ++ (z ∷ []) ++ (m ++ (s ++ (g ++ r)))
+g4 z a h m s g r = simp append_assoc
 
 g5 : (a h k m s g r : List ℕ) → (a ++ h) ++ k ++ (m ++ (s ++ (g ++ r))) ≡ [] ++ a ++ (h ++ k ++ (m ++ (s ++ (g ++ r))))
 g5 a h k m s g r = simp append_assoc
 
 module _ (l : Layout) (header body a h m s g r : List ℕ) (by_a : length a ≡ 1) (by_h : length h ≡ length header) (header_long : length header ≡ 22) (by_m : length m ≡ suc (length body)) (body_long : length body ≡ 25 + image_size l) (by_s : length s + 1 ≡ l.segment) (by_g : length g ≡ 1) where
+  abbrev z : ℕ
+  z = closed_gate l.version
+
   one : overwritten 1 header (a ++ (h ++ (m ++ (s ++ (g ++ r))))) ≡ (a ++ header) ++ m ++ (s ++ (g ++ r))
   one = put_in 1 header a h (m ++ (s ++ (g ++ r))) _ _ (g1 a h m s g r) (g2 a header m s g r) (sym by_a) (sym by_h)
 
   front_long : 23 ≡ length (a ++ header)
   front_long = omega (arith, length-append a header)
 
-  two : overwritten 23 (0 ∷ body) ((a ++ header) ++ m ++ (s ++ (g ++ r))) ≡ (a ++ header ++ (0 ∷ body) ++ s) ++ g ++ r
-  two = put_in 23 (0 ∷ body) (a ++ header) m (s ++ (g ++ r)) _ _ refl (g3 a header (0 ∷ body) s g r) front_long (sym by_m)
+  two : overwritten 23 (z ∷ body) ((a ++ header) ++ m ++ (s ++ (g ++ r))) ≡ (a ++ header ++ (z ∷ body) ++ s) ++ g ++ r
+  two = put_in 23 (z ∷ body) (a ++ header) m (s ++ (g ++ r)) _ _ refl (g3 a header (z ∷ body) s g r) front_long (sym by_m)
 
-  second_long : half_at l Second ≡ length (a ++ header ++ (0 ∷ body) ++ s)
-  second_long = omega (arith, length-append (a ++ header ++ (0 ∷ body)) s, length-append (a ++ header) (0 ∷ body), length-append a header)
+  second_long : half_at l Second ≡ length (a ++ header ++ (z ∷ body) ++ s)
+  second_long = omega (arith, length-append (a ++ header ++ (z ∷ body)) s, length-append (a ++ header) (z ∷ body), length-append a header)
 
-  three : overwritten (half_at l Second) (0 ∷ []) ((a ++ header ++ (0 ∷ body) ++ s) ++ g ++ r) ≡ (a ++ header) ++ (0 ∷ []) ++ (body ++ (s ++ ((0 ∷ []) ++ r)))
-  three = put_in (half_at l Second) (0 ∷ []) (a ++ header ++ (0 ∷ body) ++ s) g r _ _ refl (g4 a header body s (0 ∷ []) r) second_long (sym by_g)
+  three : overwritten (half_at l Second) (z ∷ []) ((a ++ header ++ (z ∷ body) ++ s) ++ g ++ r) ≡ (a ++ header) ++ (z ∷ []) ++ (body ++ (s ++ ((z ∷ []) ++ r)))
+  three = put_in (half_at l Second) (z ∷ []) (a ++ header ++ (z ∷ body) ++ s) g r _ _ refl (g4 z a header body s (z ∷ []) r) second_long (sym by_g)
 
-  four : overwritten 23 (165 ∷ []) ((a ++ header) ++ (0 ∷ []) ++ (body ++ (s ++ ((0 ∷ []) ++ r)))) ≡ [] ++ a ++ (header ++ (165 ∷ []) ++ (body ++ (s ++ ((0 ∷ []) ++ r))))
-  four = put_in 23 (165 ∷ []) (a ++ header) (0 ∷ []) (body ++ (s ++ ((0 ∷ []) ++ r))) _ _ refl (g5 a header (165 ∷ []) body s (0 ∷ []) r) front_long refl
+  four : overwritten 23 (165 ∷ []) ((a ++ header) ++ (z ∷ []) ++ (body ++ (s ++ ((z ∷ []) ++ r)))) ≡ [] ++ a ++ (header ++ (165 ∷ []) ++ (body ++ (s ++ ((z ∷ []) ++ r))))
+  four = put_in 23 (165 ∷ []) (a ++ header) (z ∷ []) (body ++ (s ++ ((z ∷ []) ++ r))) _ _ refl (g5 a header (165 ∷ []) body s (z ∷ []) r) front_long refl
 
-  all_put : with_open_gate (with_empty_half l header (0 ∷ body) (a ++ (h ++ (m ++ (s ++ (g ++ r)))))) ≡ (165 ∷ []) ++ (header ++ (165 ∷ []) ++ (body ++ (s ++ ((0 ∷ []) ++ r))))
+  all_put : with_open_gate (with_empty_half l header (z ∷ body) (a ++ (h ++ (m ++ (s ++ (g ++ r)))))) ≡ (165 ∷ []) ++ (header ++ (165 ∷ []) ++ (body ++ (s ++ ((z ∷ []) ++ r))))
   all_put =
-      ap (λ (x : List ℕ). with_open_gate (overwritten 23 (165 ∷ []) (overwritten (half_at l Second) (0 ∷ []) (overwritten 23 (0 ∷ body) x)))) one
-      ∙ ap (λ (x : List ℕ). with_open_gate (overwritten 23 (165 ∷ []) (overwritten (half_at l Second) (0 ∷ []) x))) two ∙ ap (λ (x : List ℕ). with_open_gate (overwritten 23 (165 ∷ []) x)) three ∙ ap with_open_gate four
-      ∙ put_mid 0 (165 ∷ []) [] a (header ++ (165 ∷ []) ++ (body ++ (s ++ ((0 ∷ []) ++ r)))) refl (sym by_a)
+      ap (λ (x : List ℕ). with_open_gate (overwritten 23 (165 ∷ []) (overwritten (half_at l Second) (z ∷ []) (overwritten 23 (z ∷ body) x)))) one
+      ∙ ap (λ (x : List ℕ). with_open_gate (overwritten 23 (165 ∷ []) (overwritten (half_at l Second) (z ∷ []) x))) two ∙ ap (λ (x : List ℕ). with_open_gate (overwritten 23 (165 ∷ []) x)) three ∙ ap with_open_gate four
+      ∙ put_mid 0 (165 ∷ []) [] a (header ++ (165 ∷ []) ++ (body ++ (s ++ ((z ∷ []) ++ r)))) refl (sym by_a)
 
 -- ---- what is cut so
 
-regroup : (header head image s o r : List ℕ) → (165 ∷ []) ++ (header ++ (165 ∷ []) ++ ((head ++ image ++ 0 ∷ []) ++ (s ++ (o ++ r)))) ≡ ((165 ∷ header) ++ (165 ∷ head ++ image)) ++ (0 ∷ s) ++ (o ++ r)
-regroup header head image s o r = simp append_assoc
+regroup : (z : ℕ) (header head image s o r : List ℕ) → (165 ∷ []) ++ (header ++ (165 ∷ []) ++ ((head ++ image ++ z ∷ []) ++ (s ++ (o ++ r)))) ≡ ((165 ∷ header) ++ (165 ∷ head ++ image)) ++ (z ∷ s) ++ (o ++ r)
+regroup z header head image s o r = simp append_assoc
 
 nils : (p q t b : List ℕ) → (p ++ q) ++ t ++ b ≡ ((p ++ []) ++ (q ++ [])) ++ t ++ b
 nils p q t b = λ i. (sym (append-nil p) i ++ sym (append-nil q) i) ++ t ++ b
@@ -160,7 +167,7 @@ own_version V03 = refl
 
 -- the new device
 fresh : Layout → Condensed → List ℕ → List ℕ → Cut
-fresh l q other rest = record { layout = l; half = First; version = l.version; epoch = 1; base = q; frames = []; other = other; rest = rest }
+fresh l q other rest = record { layout = l; half = First; version = l.version; half_gate = 165; epoch = 1; base = q; frames = []; other = other; rest = rest }
 
 module _ (size : ℕ) (t : Listing) (l : Layout) (h : IsTable t) (k : IsLongest size t l) where
   rows_in : is_rows (length t.alarms) ≡ true
@@ -187,24 +194,28 @@ module _ (size : ℕ) (t : Listing) (l : Layout) (h : IsTable t) (k : IsLongest 
   new_image : length (image_text (new_plant t)) ≡ image_size l
   new_image = image_length (new_plant t) (new-keeps t h) ∙ (λ i. image_len (new_sizes.by_rows i) (new_sizes.by_areas i))
 
-  abbrev body : List ℕ
-  body = half_head_text l l.version 1 0 ++ image_text (new_plant t) ++ 0 ∷ []
+  abbrev shut : ℕ
+  shut = closed_gate l.version
 
-  head_long : length (half_head_text l l.version 1 0) ≡ 24
-  head_long = refl
+  abbrev head : HalfHead
+  head = head_before l.version 1 (new_plant t)
+
+  abbrev body : List ℕ
+  body = half_head_text l First head ++ image_text (new_plant t) ++ shut ∷ []
 
   body_long : length body ≡ 25 + image_size l
-  body_long = omega (arith, new_image, head_long, length-append (half_head_text l l.version 1 0 ++ image_text (new_plant t)) (0 ∷ []), length-append (half_head_text l l.version 1 0) (image_text (new_plant t)))
+  body_long = omega (arith, new_image, head_long l First head, length-append (half_head_text l First head ++ image_text (new_plant t)) (shut ∷ []), length-append (half_head_text l First head) (image_text (new_plant t)))
 
   pub half_long : length (first_half l (new_plant t)) ≡ 26 + image_size l
   half_long = omega (arith, body_long)
 
   -- the device as a cut
-  fresh_stores : (o rest : List ℕ) → length o + 1 ≡ half_len l → Stores (fresh l (new_plant t) (0 ∷ o) rest) (new_plant t)
+  fresh_stores : (o rest : List ℕ) → length o + 1 ≡ half_len l → Stores (fresh l (new_plant t) (shut ∷ o) rest) (new_plant t)
   unfolding fresh
   fresh_stores o rest long = record {
     layout = layout_in;
     version = own_version l.version;
+    opened = written_open l.version;
     epoch = omega arith;
     image = record { rules = new-keeps t h; fits = omega arith; text = refl };
     sizes = new_sizes;
@@ -214,48 +225,48 @@ module _ (size : ℕ) (t : Listing) (l : Layout) (h : IsTable t) (k : IsLongest 
     admitted = tt;
     runs = refl;
     size = omega (arith, long);
-    below = inl refl;
+    below = record { older = inl (closed_shut l.version); whole = shut_beside l Second (shut ∷ o) (closed_shut l.version) };
   }
 
-  fresh_stands : (s o rest : List ℕ) → length s + 1 ≡ l.segment → length o + 1 ≡ half_len l → IsNewDevice size t (device_of (fresh l (new_plant t) (0 ∷ o) rest) (0 ∷ s))
+  fresh_stands : (s o rest : List ℕ) → length s + 1 ≡ l.segment → length o + 1 ≡ half_len l → IsNewDevice size t (device_of (fresh l (new_plant t) (shut ∷ o) rest) (shut ∷ s))
   unfolding fresh
   fresh_stands s o rest by_s by_o =
-      let c = fresh l (new_plant t) (0 ∷ o) rest in
+      let c = fresh l (new_plant t) (shut ∷ o) rest in
       let stores = fresh_stores o rest by_o in
       record {
         stands = record {
-          opened = shown c (0 ∷ s);
-          opens = shown_opens c (new_plant t) (0 ∷ s) stores (omega (arith, by_s));
+          opened = shown c (shut ∷ s);
+          opens = shown_opens c (new_plant t) (shut ∷ s) stores (omega (arith, by_s));
           in_epoch = refl;
           base = new_plant t;
-          spells = record { sizes = stores.sizes; image = stores.image };
+          spells = record { sum = refl; sizes = stores.sizes; image = stores.image };
           left = suc (length s);
-          folds = folds l.version (new_plant t) 1 0 [] 0 s tt (All-nil (IsBorne l.version)) tt refl;
+          folds = folds l.version (new_plant t) 1 0 [] shut s tt (All-nil (IsBorne l.version)) tt (closed_shut l.version);
         };
         longest = k;
       }
 
-  fresh_is : (s o rest : List ℕ) → (165 ∷ []) ++ (header_text l ++ (165 ∷ []) ++ (body ++ (s ++ ((0 ∷ []) ++ (o ++ rest))))) ≡ device_of (fresh l (new_plant t) (0 ∷ o) rest) (0 ∷ s)
+  fresh_is : (s o rest : List ℕ) → (165 ∷ []) ++ (header_text l ++ (165 ∷ []) ++ (body ++ (s ++ ((shut ∷ []) ++ (o ++ rest))))) ≡ device_of (fresh l (new_plant t) (shut ∷ o) rest) (shut ∷ s)
   unfolding fresh
   fresh_is s o rest =
-      regroup (header_text l) (half_head_text l l.version 1 0) (image_text (new_plant t)) s (0 ∷ o) rest
-      ∙ nils (165 ∷ header_text l) (165 ∷ half_head_text l l.version 1 0 ++ image_text (new_plant t)) (0 ∷ s) ((0 ∷ o) ++ rest)
+      regroup shut (header_text l) (half_head_text l First head) (image_text (new_plant t)) s (shut ∷ o) rest
+      ∙ nils (165 ∷ header_text l) (165 ∷ half_head_text l First head ++ image_text (new_plant t)) (shut ∷ s) ((shut ∷ o) ++ rest)
 
-  fresh_version : (s o rest : List ℕ) → length s + 1 ≡ l.segment → length o + 1 ≡ half_len l → IsOfVersion l.version (device_of (fresh l (new_plant t) (0 ∷ o) rest) (0 ∷ s))
+  fresh_version : (s o rest : List ℕ) → length s + 1 ≡ l.segment → length o + 1 ≡ half_len l → IsOfVersion l.version (device_of (fresh l (new_plant t) (shut ∷ o) rest) (shut ∷ s))
   unfolding fresh
   fresh_version s o rest by_s by_o =
-      let c = fresh l (new_plant t) (0 ∷ o) rest in
-      record { opened = shown c (0 ∷ s); opens = shown_opens c (new_plant t) (0 ∷ s) (fresh_stores o rest by_o) (omega (arith, by_s)); of_header = refl; of_half = refl }
+      let c = fresh l (new_plant t) (shut ∷ o) rest in
+      record { opened = shown c (shut ∷ s); opens = shown_opens c (new_plant t) (shut ∷ s) (fresh_stores o rest by_o) (omega (arith, by_s)); of_header = refl; of_half = refl }
 
-  new_cut : (x : List ℕ) (p : Pieces l x) → with_open_gate (with_empty_half l (header_text l) (0 ∷ body) x) ≡ (165 ∷ []) ++ (header_text l ++ (165 ∷ []) ++ (body ++ (p.s ++ ((0 ∷ []) ++ (p.o ++ p.r)))))
+  new_cut : (x : List ℕ) (p : Pieces l x) → with_open_gate (with_empty_half l (header_text l) (shut ∷ body) x) ≡ (165 ∷ []) ++ (header_text l ++ (165 ∷ []) ++ (body ++ (p.s ++ ((shut ∷ []) ++ (p.o ++ p.r)))))
   new_cut x p =
-      ap (λ (z : List ℕ). with_open_gate (with_empty_half l (header_text l) (0 ∷ body) z)) p.is
+      ap (λ (z : List ℕ). with_open_gate (with_empty_half l (header_text l) (shut ∷ body) z)) p.is
       ∙ all_put l (header_text l) body p.a p.h p.m p.s p.g (p.o ++ p.r) p.by_a p.by_h refl (omega (arith, p.by_m, body_long)) body_long p.by_s p.by_g
 
-  new_is : (x b : List ℕ) → b ≡ with_open_gate (with_empty_half l (header_text l) (0 ∷ body) x) → Pieces l x → IsNewDevice size t b
+  new_is : (x b : List ℕ) → b ≡ with_open_gate (with_empty_half l (header_text l) (shut ∷ body) x) → Pieces l x → IsNewDevice size t b
   new_is x b is p = subst (IsNewDevice size t) (sym (is ∙ new_cut x p ∙ fresh_is p.s p.o p.r)) (fresh_stands p.s p.o p.r p.by_s p.by_o)
 
-  version_is : (x b : List ℕ) → b ≡ with_open_gate (with_empty_half l (header_text l) (0 ∷ body) x) → Pieces l x → IsOfVersion l.version b
+  version_is : (x b : List ℕ) → b ≡ with_open_gate (with_empty_half l (header_text l) (shut ∷ body) x) → Pieces l x → IsOfVersion l.version b
   version_is x b is p = subst (IsOfVersion l.version) (sym (is ∙ new_cut x p ∙ fresh_is p.s p.o p.r)) (fresh_version p.s p.o p.r p.by_s p.by_o)
 
   pub version_here : (b : List ℕ) → IsWritten size l (header_text l) (first_half l (new_plant t)) b → IsOfVersion l.version b

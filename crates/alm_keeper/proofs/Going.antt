@@ -2,7 +2,7 @@
 use Rattle.std.proofs.Common.{◌≡◌, ◌⊎◌, inl, inr, ⊎_elim, ℕ, ◌+◌, ◌-◌, ◌≤◌, Bool, true, false, List, [], ◌∷◌, ◌++◌, length, take, drop, Result, Ok, refl, sym, ◌∙◌, ap, subst, arith, append_assoc, length-append, ◌==◌, if◌then◌else◌}
 use Rattle.std.proofs.lemmas.List.{take_at, length-take-le}
 use Rattle.alm_types.specs.declared.action.Action.{Action}
-use Rattle.alm_codec.specs.Versions.{newer}
+use Rattle.alm_codec.specs.Versions.{closed_gate, newer}
 use Rattle.alm_codec.specs.Frames.{frame_body, frame_text}
 use Rattle.alm_disk.specs.Device.{DeviceState, IsImage, Writes}
 use Rattle.alm_disk.specs.declared.disk_fault.DiskFault.{DiskFault}
@@ -37,7 +37,7 @@ pub turned_is : (a : Account) (k : Copy) (n : ℕ) → length (run_text a k) ≡
 turned_is a k n long = ap (λ (gate : ℕ). record (turned_half a n) { gate = gate }) place
   where
     place : other_at a + 1 + length (open_text a k) ≡ other_at a + n
-    place = omega (arith, long, length-append (open_text a k) (0 ∷ []))
+    place = omega (arith, long, length-append (open_text a k) (closed_gate (newer a.version) ∷ []))
 
 -- a checkpoint that is under way is open
 pub never_alone : (stage : Stage) → Possible stage false Checkpoint → ⊥
@@ -61,7 +61,7 @@ module _ (result : Result Unit DiskFault) (a : Account) (actions : List Action) 
   abbrev body : List ℕ
   body = frame_body a.version a.epoch (a.plant.panel.count + 1) actions
 
-  pub alone_call : (stage : Stage) → StageCall stage a.gate body result old new → MakesCall (work_alone stage actions) a n result old new
+  pub alone_call : (stage : Stage) → StageCall a.layout.version stage a.gate body result old new → MakesCall (work_alone stage actions) a n result old new
   alone_call Idle call = absurd call
   alone_call Close call = call
   alone_call CloseSync call = call
@@ -71,7 +71,7 @@ module _ (result : Result Unit DiskFault) (a : Account) (actions : List Action) 
   alone_call GateSync call = call
   alone_call Stopped call = absurd call
 
-  pub commit_call : (k : Copy) (stage : Stage) → Possible stage true Commit → StageCall stage a.gate body result old new → MakesCall (work_beside stage Commit k actions) a n result old new
+  pub commit_call : (k : Copy) (stage : Stage) → Possible stage true Commit → StageCall a.layout.version stage a.gate body result old new → MakesCall (work_beside stage Commit k actions) a n result old new
   commit_call k Idle may call = absurd may
   commit_call k Close may call = absurd may
   commit_call k CloseSync may call = absurd may
@@ -82,7 +82,7 @@ module _ (result : Result Unit DiskFault) (a : Account) (actions : List Action) 
   commit_call k Stopped may call = absurd may
 
   -- of a checkpoint, except for its pieces
-  pub checkpoint_call : (k : Copy) (stage : Stage) → (stage ≡ Body → ⊥) → StageCall stage (other_at a) [] result old new → MakesCall (work_beside stage Checkpoint k actions) a n result old new
+  pub checkpoint_call : (k : Copy) (stage : Stage) → (stage ≡ Body → ⊥) → StageCall a.layout.version stage (other_at a) [] result old new → MakesCall (work_beside stage Checkpoint k actions) a n result old new
   checkpoint_call k Idle pieces call = absurd call
   checkpoint_call k Close pieces call = call
   checkpoint_call k CloseSync pieces call = call
@@ -135,9 +135,9 @@ module _ (result : Result Unit DiskFault) (old new : DeviceState) (b : Book) (i 
       let here = kept_beside b old b.stage b.work works kept in
       (here.0, here.1, here.2, advances result (work_beside b.stage b.work (at_out here.0 b.out) acts) a (piece_of b) old new i.gate here.2 (with_copy refl here.0 here.1))
 
-  pub commit_passes : (text : List ℕ) → b.work ≡ Commit → text ≡ frame_body b.version b.epoch (b.stored.panel.count + 1) acts → StageCall b.stage b.gate text result old new → Keeps old b → PassesOn result old new b
+  pub commit_passes : (text : List ℕ) → b.work ≡ Commit → text ≡ frame_body b.version b.epoch (b.stored.panel.count + 1) acts → StageCall b.layout.version b.stage b.gate text result old new → Keeps old b → PassesOn result old new b
   commit_passes text is same call kept =
-      let here : StageCall b.stage b.gate (frame_body b.version b.epoch (b.stored.panel.count + 1) acts) result old new = subst (λ (t : List ℕ). StageCall b.stage b.gate t result old new) same call in
+      let here : StageCall b.layout.version b.stage b.gate (frame_body b.version b.epoch (b.stored.panel.count + 1) acts) result old new = subst (λ (t : List ℕ). StageCall b.layout.version b.stage b.gate t result old new) same call in
       by_copying b.copying (λ off. alone_call result a acts (piece_of b) old new b.stage here)
       (λ on k run.
       let may : Possible b.stage true Commit = subst (λ (w : Work). Possible b.stage true w) is (subst (λ (o : Bool). Possible b.stage o b.work) on (possible b i works)) in
@@ -146,9 +146,9 @@ module _ (result : Result Unit DiskFault) (old new : DeviceState) (b : Book) (i 
   never_without : b.work ≡ Checkpoint → b.copying ≡ false → ⊥
   never_without is off = never_alone b.stage (subst (λ (w : Work). Possible b.stage false w) is (subst (λ (o : Bool). Possible b.stage o b.work) off (possible b i works)))
 
-  pub checkpoint_passes : (at : ℕ) → b.work ≡ Checkpoint → (b.stage ≡ Body → ⊥) → at ≡ other_at a → StageCall b.stage at [] result old new → Keeps old b → PassesOn result old new b
+  pub checkpoint_passes : (at : ℕ) → b.work ≡ Checkpoint → (b.stage ≡ Body → ⊥) → at ≡ other_at a → StageCall b.layout.version b.stage at [] result old new → Keeps old b → PassesOn result old new b
   checkpoint_passes at is pieces place call kept =
-      let here : StageCall b.stage (other_at a) [] result old new = subst (λ (n : ℕ). StageCall b.stage n [] result old new) place call in
+      let here : StageCall b.layout.version b.stage (other_at a) [] result old new = subst (λ (n : ℕ). StageCall b.layout.version b.stage n [] result old new) place call in
       by_copying b.copying (λ off. absurd (never_without is off))
       (λ on k run. subst (λ (w : Work). MakesCall (work_beside b.stage w (at_out k b.out) acts) a (piece_of b) result old new) (sym is) (checkpoint_call result a acts (piece_of b) old new (at_out k b.out) b.stage pieces here)) kept
 
@@ -282,16 +282,16 @@ grows_run : (old new : Book) (k : Copy) → IsCopy (account old) k → run_text 
     → run_text (account new) (with_copied_frame k old.actions.items) ≡ run_in new
 grows_run old new k copy run long account_is g =
     (λ j. run_text (account_is j) (with_copied_frame k old.actions.items))
-    ∙ ap (λ (t : List ℕ). t ++ 0 ∷ []) (open_grows (account old) k old.actions.items copy ∙ ap (λ (t : List ℕ). open_text (account old) k ++ t) (frame_is (account old) k old.actions.items copy))
-    ∙ append_assoc (open_text (account old) k) (165 ∷ frame_text (newer old.version) (old.epoch + 1) (old.stored.panel.count + 1) old.actions.items) (0 ∷ [])
+    ∙ ap (λ (t : List ℕ). t ++ closed_gate (newer old.version) ∷ []) (open_grows (account old) k old.actions.items copy ∙ ap (λ (t : List ℕ). open_text (account old) k ++ t) (frame_is (account old) k old.actions.items copy))
+    ∙ append_assoc (open_text (account old) k) (165 ∷ frame_text (newer old.version) (old.epoch + 1) (old.stored.panel.count + 1) old.actions.items) (closed_gate (newer old.version) ∷ [])
     ∙ ap (λ (t : List ℕ). t ++ (165 ∷ frame_body (newer old.version) (old.epoch + 1) (old.stored.panel.count + 1) old.actions.items)) front
     ∙ sym g.text
   where
     size : length (open_text (account old) k) ≡ old.run - 1
-    size = omega (arith, ap length run, long, length-append (open_text (account old) k) (0 ∷ []))
+    size = omega (arith, ap length run, long, length-append (open_text (account old) k) (closed_gate (newer old.version) ∷ []))
 
     front : open_text (account old) k ≡ take (old.run - 1) (run_in old)
-    front = sym (take_at (open_text (account old) k) (0 ∷ []) (old.run - 1) size) ∙ ap (take (old.run - 1)) run
+    front = sym (take_at (open_text (account old) k) (closed_gate (newer old.version) ∷ []) (old.run - 1) size) ∙ ap (take (old.run - 1)) run
 
 module _ (step : Progress) (old new : Book) (state : DeviceState) (i : InOrder old) (works : IsWorking old.stage) where
   abbrev listed : List Action

@@ -25,6 +25,7 @@ pub mod Shut
 pub mod Calls
 pub mod Called
 pub mod Formed
+pub mod Gates
 pub mod Fresh
 pub mod Moments
 pub mod Pace

@@ -7,6 +7,8 @@ use Rattle.alm_codec.specs.Frames.{frame_body}
 use Rattle.alm_disk.specs.Device.{DeviceState}
 use Rattle.alm_disk.specs.Device.{IsImage as IsLeft}
 use Rattle.alm_checkpoint.specs.Layouts.{half_len, part}
+use Rattle.alm_codec.specs.Versions.{closed_gate, newer}
+use Rattle.alm_codec.specs.declared.version.Version.{Version}
 use Rattle.alm_keeper.specs.Stand.{Ready, Account, other_at, end_of_half, TakesFrame, with_commit}
 use Rattle.alm_keeper.specs.Resting.{or_within, with_gate, Kept}
 use Rattle.alm_keeper.specs.Stages.{During, next_stage}
@@ -37,12 +39,12 @@ module _ (a : Account) (k : Copy) (n : ℕ) (state : DeviceState) (c : IsCopy a 
   by_place true is = ends a k state c gate (subst (λ (m : ℕ). Paused a (record k { out = m }) state) (eqb-true (k.out + n) (length (run_text a k)) is) p)
   by_place false is =
       let differs : k.out + n ≢ length (run_text a k) = eqb-false (k.out + n) (length (run_text a k)) is in
-      (record { more = c.more; image = c.image; sizes = c.sizes; count = c.count; frames = c.frames; admitted = c.admitted; runs = c.runs; room = c.room; shut = c.shut; left = omega (arith, within, differs, length-append (open_text a k) (0 ∷ [])) }, p)
+      (record { more = c.more; image = c.image; sizes = c.sizes; count = c.count; frames = c.frames; admitted = c.admitted; runs = c.runs; room = c.room; shut = c.shut; left = omega (arith, within, differs, length-append (open_text a k) (closed_gate (newer a.version) ∷ [])) }, p)
 
 -- ---- a step of a write after a gate
 
-module _ {E : Type 0} (result : Result Unit E) (loose : ℕ → Bool) (Before After : List ℕ → Type 0) (old new : DeviceState) (at : ℕ) (text : List ℕ) where
-  pub moments : (step : Stage) → StageCall step at text result old new → Kept loose Before After step old at text → (b : List ℕ) → IsLeft old b ⊎ IsLeft new b → During Before After step b
+module _ {E : Type 0} (result : Result Unit E) (loose : ℕ → Bool) (Before After : List ℕ → Type 0) (old new : DeviceState) (version : Version) (at : ℕ) (text : List ℕ) where
+  pub moments : (step : Stage) → StageCall version step at text result old new → Kept loose Before After step old at text → (b : List ℕ) → IsLeft old b ⊎ IsLeft new b → During Before After step b
   moments Close call kept = absurd kept.stands
   moments CloseSync call kept = absurd kept.stands
   moments Body call kept = (body_passes loose Before After old new at text result call kept).any_moment
@@ -52,8 +54,8 @@ module _ {E : Type 0} (result : Result Unit E) (loose : ℕ → Bool) (Before Af
   moments Idle call kept = absurd call
   moments Stopped call kept = absurd call
 
-module _ (E : Type 0) (loose : ℕ → Bool) (Before After : List ℕ → Type 0) (old new : DeviceState) (at : ℕ) (text : List ℕ) where
-  pub goes : (step : Stage) → StageCall {E = E} step at text (Ok tt) old new → Kept loose Before After step old at text → Kept loose Before After (next_stage step) new at text
+module _ (E : Type 0) (loose : ℕ → Bool) (Before After : List ℕ → Type 0) (old new : DeviceState) (version : Version) (at : ℕ) (text : List ℕ) where
+  pub goes : (step : Stage) → StageCall {E = E} version step at text (Ok tt) old new → Kept loose Before After step old at text → Kept loose Before After (next_stage step) new at text
   goes Close call kept = absurd kept.stands
   goes CloseSync call kept = absurd kept.stands
   goes Body call kept = (body_passes {E = E} loose Before After old new at text (Ok tt) call kept).kept
@@ -72,9 +74,9 @@ module _ (E : Type 0) (a : Account) (k : Copy) (actions : List Action) (old new 
   body = frame_body a.version a.epoch (a.plant.panel.count + 1) actions
 
   short : length gone + 1 ≤ half_len a.layout
-  short = omega (arith, length-take-le k.out (run_text a k) (omega (arith, c.left, length-append (open_text a k) (0 ∷ []))), run_fits a k c gate, c.left, length-append (open_text a k) (0 ∷ []))
+  short = omega (arith, length-take-le k.out (run_text a k) (omega (arith, c.left, length-append (open_text a k) (closed_gate (newer a.version) ∷ []))), run_fits a k c gate, c.left, length-append (open_text a k) (closed_gate (newer a.version) ∷ []))
 
-  pub stays : (step : Stage) → StageCall {E = E} step a.gate body (Ok tt) old new → Kept (is_sent a k.out) (Ready a) (Ready (with_commit a actions)) step old a.gate body → WrotePart a gone old → WrotePart a gone new
+  pub stays : (step : Stage) → StageCall {E = E} a.layout.version step a.gate body (Ok tt) old new → Kept (is_sent a k.out) (Ready a) (Ready (with_commit a actions)) step old a.gate body → WrotePart a gone old → WrotePart a gone new
   stays Close call kept wrote = absurd kept.stands
   stays CloseSync call kept wrote = absurd kept.stands
   stays Body call kept wrote =
@@ -106,7 +108,7 @@ module _ (E : Type 0) (a : Account) (actions : List Action) (old new : DeviceSta
   abbrev text : List ℕ
   text = frame_body a.version a.epoch (a.plant.panel.count + 1) actions
 
-  besides : (other : Option Copy) (step : Stage) → TakesFrame a actions → StageCall {E = E} step a.gate text (Ok tt) old new → Kept (is_sent a (out_of other)) (Ready a) (Ready (with_commit a actions)) step old a.gate text
+  besides : (other : Option Copy) (step : Stage) → TakesFrame a actions → StageCall {E = E} a.layout.version step a.gate text (Ok tt) old new → Kept (is_sent a (out_of other)) (Ready a) (Ready (with_commit a actions)) step old a.gate text
       → Beside other a old → Beside other a new
   besides None step takes call kept beside = tt
   besides (Some k) step takes call kept beside = (beside.0, stays E a k actions old new beside.0 takes gate step call kept beside.1)
@@ -115,13 +117,13 @@ module _ (E : Type 0) (a : Account) (actions : List Action) (old new : DeviceSta
   commit_ends None is beside kept = rested_by (with_commit a actions) new (is_sent a 0) (Ready a) a.gate text (λ place. no_place (other_at a + 1) 0 place refl) kept
   commit_ends (Some k) is beside kept = (still a k actions beside.0 is.0 is.1, resumes a k actions beside.0 new kept beside.1)
 
-  commit_goes : (n : ℕ) (other : Option Copy) (step : Stage) → StageCall {E = E} step a.gate text (Ok tt) old new → KeptIn (Frame other step actions) a old → KeptIn (next_work (Frame other step actions) a n) (next_account (Frame other step actions) a) new
+  commit_goes : (n : ℕ) (other : Option Copy) (step : Stage) → StageCall {E = E} a.layout.version step a.gate text (Ok tt) old new → KeptIn (Frame other step actions) a old → KeptIn (next_work (Frame other step actions) a n) (next_account (Frame other step actions) a) new
   commit_goes n other Close call kept = absurd kept.2.stands
   commit_goes n other CloseSync call kept = absurd kept.2.stands
-  commit_goes n other Body call kept = (kept.0, besides other Body kept.0.2 call kept.2 kept.1, goes E (is_sent a (out_of other)) (Ready a) (Ready (with_commit a actions)) old new a.gate text Body call kept.2)
-  commit_goes n other BodySync call kept = (kept.0, besides other BodySync kept.0.2 call kept.2 kept.1, goes E (is_sent a (out_of other)) (Ready a) (Ready (with_commit a actions)) old new a.gate text BodySync call kept.2)
-  commit_goes n other Gate call kept = (kept.0, besides other Gate kept.0.2 call kept.2 kept.1, goes E (is_sent a (out_of other)) (Ready a) (Ready (with_commit a actions)) old new a.gate text Gate call kept.2)
-  commit_goes n other GateSync call kept = commit_ends other kept.0 (besides other GateSync kept.0.2 call kept.2 kept.1) (goes E (is_sent a (out_of other)) (Ready a) (Ready (with_commit a actions)) old new a.gate text GateSync call kept.2)
+  commit_goes n other Body call kept = (kept.0, besides other Body kept.0.2 call kept.2 kept.1, goes E (is_sent a (out_of other)) (Ready a) (Ready (with_commit a actions)) old new a.layout.version a.gate text Body call kept.2)
+  commit_goes n other BodySync call kept = (kept.0, besides other BodySync kept.0.2 call kept.2 kept.1, goes E (is_sent a (out_of other)) (Ready a) (Ready (with_commit a actions)) old new a.layout.version a.gate text BodySync call kept.2)
+  commit_goes n other Gate call kept = (kept.0, besides other Gate kept.0.2 call kept.2 kept.1, goes E (is_sent a (out_of other)) (Ready a) (Ready (with_commit a actions)) old new a.layout.version a.gate text Gate call kept.2)
+  commit_goes n other GateSync call kept = commit_ends other kept.0 (besides other GateSync kept.0.2 call kept.2 kept.1) (goes E (is_sent a (out_of other)) (Ready a) (Ready (with_commit a actions)) old new a.layout.version a.gate text GateSync call kept.2)
   commit_goes n other Idle call kept = absurd call
   commit_goes n other Stopped call kept = absurd call
 
@@ -129,13 +131,13 @@ module _ (E : Type 0) (a : Account) (k : Copy) (n : ℕ) (old new : DeviceState)
   abbrev loose : ℕ → Bool
   loose place = false
 
-  end_goes : (step : Stage) → StageCall {E = E} step (other_at a) (run_text a k) (Ok tt) old new → KeptIn (End k step) a old → KeptIn (next_work (End k step) a n) (next_account (End k step) a) new
+  end_goes : (step : Stage) → StageCall {E = E} a.layout.version step (other_at a) (run_text a k) (Ok tt) old new → KeptIn (End k step) a old → KeptIn (next_work (End k step) a n) (next_account (End k step) a) new
   end_goes Close call kept = absurd kept.stands
   end_goes CloseSync call kept = absurd kept.stands
-  end_goes Body call kept = goes E loose (Ready a) (Ready (turned_by a k)) old new (other_at a) (run_text a k) Body call kept
-  end_goes BodySync call kept = goes E loose (Ready a) (Ready (turned_by a k)) old new (other_at a) (run_text a k) BodySync call kept
-  end_goes Gate call kept = goes E loose (Ready a) (Ready (turned_by a k)) old new (other_at a) (run_text a k) Gate call kept
-  end_goes GateSync call kept = rested_by (turned_by a k) new loose (Ready a) (other_at a) (run_text a k) (λ place. refl) (goes E loose (Ready a) (Ready (turned_by a k)) old new (other_at a) (run_text a k) GateSync call kept)
+  end_goes Body call kept = goes E loose (Ready a) (Ready (turned_by a k)) old new a.layout.version (other_at a) (run_text a k) Body call kept
+  end_goes BodySync call kept = goes E loose (Ready a) (Ready (turned_by a k)) old new a.layout.version (other_at a) (run_text a k) BodySync call kept
+  end_goes Gate call kept = goes E loose (Ready a) (Ready (turned_by a k)) old new a.layout.version (other_at a) (run_text a k) Gate call kept
+  end_goes GateSync call kept = rested_by (turned_by a k) new loose (Ready a) (other_at a) (run_text a k) (λ place. refl) (goes E loose (Ready a) (Ready (turned_by a k)) old new a.layout.version (other_at a) (run_text a k) GateSync call kept)
   end_goes Idle call kept = absurd call
   end_goes Stopped call kept = absurd call
 
@@ -155,8 +157,8 @@ phase_moments result (Shut k) a n old new gate kept call b moment = ⊎_elim (λ
 phase_moments result (ShutSync k) a n old new gate kept call b moment = ⊎_elim (kept.2.images b) (sync_images result a old new kept.2 call b) moment
 phase_moments result (Pause k) a n old new gate kept call b moment = ⊎_elim (kept.1.images b) (piece_images a k n old new kept.0 gate call.0 kept.1 result call.1 b) moment
 phase_moments result (Frame other step actions) a n old new gate kept call b moment =
-    moments result (is_sent a (out_of other)) (Ready a) (Ready (with_commit a actions)) old new a.gate (frame_body a.version a.epoch (a.plant.panel.count + 1) actions) step call kept.2 b moment
-phase_moments result (End k step) a n old new gate kept call b moment = moments result (λ place. false) (Ready a) (Ready (turned_by a k)) old new (other_at a) (run_text a k) step call kept b moment
+    moments result (is_sent a (out_of other)) (Ready a) (Ready (with_commit a actions)) old new a.layout.version a.gate (frame_body a.version a.epoch (a.plant.panel.count + 1) actions) step call kept.2 b moment
+phase_moments result (End k step) a n old new gate kept call b moment = moments result (λ place. false) (Ready a) (Ready (turned_by a k)) old new a.layout.version (other_at a) (run_text a k) step call kept b moment
 
 pub advances : {E : Type 0} (result : Result Unit E) (phase : UnderWay) (a : Account) (n : ℕ) (old new : DeviceState) → a.gate + 1 ≤ end_of_half a → KeptIn phase a old → MakesCall phase a n result old new → WorkAdvances phase a n result old new
 advances {E} result phase a n old new gate kept call = record {

@@ -1,11 +1,13 @@
 -- What each call leaves of a device with loose places.
 use Rattle.std.proofs.Common.{◌≡◌, inl, inr, ◌⊎◌, ⊎_elim, ℕ, ◌+◌, ◌-◌, ◌≤◌, ◌<◌, Bool, false, ◌||◌, nat_lt, nat_le, List, [], ◌∷◌, ◌++◌, length, get_or, take, drop, Result, Ok, Err, refl, sym, ◌∙◌, ap, subst, arith, append_assoc, length-append, length-drop}
-use Rattle.std.proofs.lemmas.Bool.{cases_eq, or_parts, cases_Bool, and_parts, leb-true, ltb-true}
+use Rattle.std.proofs.lemmas.Bool.{or_parts, cases_Bool, and_parts, leb-true, ltb-true}
 use Rattle.std.proofs.lemmas.List.{get_or_append_left, get_or-append_right, get_or-take, get_or-drop, length-take-le, take_at, drop_at}
 use Rattle.alm_disk.specs.Device.{DeviceState, IsImage, Writes, Syncs, byte_at, is_within}
 use Rattle.alm_disk.proofs.Images.{synced_image}
 use Rattle.alm_disk.proofs.Places.{outside_cases}
 use Rattle.alm_keeper.specs.Resting.{RestsBut, or_within, IsBeside, Blind, Guarded, with_gate, Kept, Passes}
+use Rattle.alm_codec.specs.Versions.{is_open}
+use Rattle.alm_keeper.proofs.Gates.{written_open}
 use Rattle.alm_keeper.specs.Stages.{stage_after}
 use Rattle.alm_keeper.specs.declared.stage.Stage.TheVariants.{Body, BodySync, Gate, GateSync}
 
@@ -145,8 +147,8 @@ module _ (loose : ℕ → Bool) (Before After : List ℕ → Type 0) (at : ℕ) 
   blind_either before after b c = λ is beside. ⊎_elim (λ x. inl (before b c x beside)) (λ x. inr (after b c x beside)) is
 
   either : (k : Guarded loose Before After at text) (gate : ℕ) → Before (with_gate k gate text) ⊎ After (with_gate k gate text)
-  either k gate = elim (cases_eq gate 165) [
-    | inl opened ↦ inr (subst (λ (n : ℕ). After (with_gate k n text)) (sym opened) k.whole)
+  either k gate = elim (cases_Bool (is_open k.version gate)) [
+    | inl opened ↦ inr (k.whole gate opened)
     | inr shut ↦ inl (k.closed gate shut text (sym k.fits))
   ]
 
@@ -202,7 +204,7 @@ module _ {E : Type 0} (loose : ℕ → Bool) (Before After : List ℕ → Type 0
   gate_sync_goes (Ok _) kept syncs =
       let k = kept.stands.0 in
       let rests : RestsBut loose new (with_gate k 165 text) = syncs_rest (or_within at 1 loose) loose state new (with_gate k 165 text) kept.stands.1 syncs in
-      record { images = λ c image. resting loose new (with_gate k 165 text) c After k.blind_after rests k.whole image; stands = (with_gate k 165 text, k.whole, rests) }
+      record { images = λ c image. resting loose new (with_gate k 165 text) c After k.blind_after rests (k.whole 165 (written_open k.version)) image; stands = (with_gate k 165 text, k.whole 165 (written_open k.version), rests) }
   gate_sync_goes (Err e) kept syncs = record { images = λ c image. kept.images c (synced_image (Err e) state new c syncs image); stands = tt }
 
   -- the calls

@@ -2,19 +2,19 @@
 use Rattle.std.proofs.Common.{◌≡◌, ⊎_elim, ℕ, ◌+◌, ◌≤◌, false, ◌||◌, List, [], ◌∷◌, ◌++◌, length, take, drop, Result, Ok, refl, sym, ◌∙◌, ap, subst, arith, append_assoc, length-append, length-drop, take-append-drop}
 use Rattle.std.proofs.lemmas.List.{length-take-le}
 use Rattle.std.proofs.Math.Seq.{take-append-add}
-use Rattle.alm_codec.specs.Versions.{newer}
+use Rattle.alm_codec.specs.Versions.{closed_gate, newer}
 use Rattle.alm_codec.specs.Image.{image_text, image_len}
 use Rattle.alm_codec.proofs.Spelled.{image_length}
 use Rattle.alm_disk.specs.Device.{DeviceState, Writes, is_within}
 use Rattle.alm_disk.specs.Device.{IsImage as IsLeft, byte_at as byte_of}
 use Rattle.alm_disk.proofs.Places.{below, above, outside_cases}
-use Rattle.alm_checkpoint.specs.Layouts.{half_len, image_size}
+use Rattle.alm_checkpoint.specs.Layouts.{half_len, image_size, other}
 use Rattle.alm_checkpoint.specs.Headers.{half_head_text}
-use Rattle.alm_checkpoint.specs.Cut.{side_front, side_back}
+use Rattle.alm_checkpoint.specs.Cut.{head_before, side_front, side_back}
 use Rattle.alm_checkpoint.proofs.Pieces.{part_is}
 use Rattle.alm_keeper.specs.Stand.{Account, Ready, end_of_half, other_at}
 use Rattle.alm_keeper.specs.Piecewise.{Copy, since_text, open_text, run_text, IsCopy, is_sent, Paused, with_sent_bytes}
-use Rattle.alm_keeper.proofs.Devices.{head_long}
+use Rattle.alm_checkpoint.proofs.HeaderLaws.{head_long}
 use Rattle.alm_keeper.proofs.Piecewise.{ready_blind, there, ahead_long}
 
 pub take_both : (m n : ℕ) (l : List ℕ) → m ≤ length l → take (m + n) l ≡ take m l ++ take n (drop m l)
@@ -30,13 +30,13 @@ open_long a k c =
     omega (
       arith,
       image,
-      head_long a.layout (newer a.version) (a.epoch + 1) k.base.panel.count,
-      length-append (half_head_text a.layout (newer a.version) (a.epoch + 1) k.base.panel.count ++ image_text k.base) (since_text a k),
-      length-append (half_head_text a.layout (newer a.version) (a.epoch + 1) k.base.panel.count) (image_text k.base),
+      head_long a.layout (other a.half) (head_before (newer a.version) (a.epoch + 1) k.base),
+      length-append (half_head_text a.layout (other a.half) (head_before (newer a.version) (a.epoch + 1) k.base) ++ image_text k.base) (since_text a k),
+      length-append (half_head_text a.layout (other a.half) (head_before (newer a.version) (a.epoch + 1) k.base)) (image_text k.base),
     )
 
 pub run_long : (a : Account) (k : Copy) → IsCopy a k → length (run_text a k) ≡ 25 + image_size a.layout + length (since_text a k)
-run_long a k c = omega (arith, open_long a k c, length-append (open_text a k) (0 ∷ []))
+run_long a k c = omega (arith, open_long a k c, length-append (open_text a k) (closed_gate (newer a.version) ∷ []))
 
 pub run_fits : (a : Account) (k : Copy) → IsCopy a k → a.gate + 1 ≤ end_of_half a → length (run_text a k) + 1 ≤ half_len a.layout
 run_fits a k c gate = omega (arith, run_long a k c, c.room, gate)

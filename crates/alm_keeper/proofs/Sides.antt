@@ -20,5 +20,5 @@ pub regroup : (f m l b : List ℕ) (g : ℕ) → f ++ (g ∷ m) ++ (l ++ b) ≡ 
 regroup f m l b g = simp append_assoc
 
 -- a new half's text before what is left there
-pub regroup_half : (f h i s l b : List ℕ) → f ++ (165 ∷ (((h ++ i) ++ s) ++ 0 ∷ [])) ++ (l ++ b) ≡ f ++ ((((165 ∷ h) ++ i) ++ s) ++ (0 ∷ l)) ++ b
-regroup_half f h i s l b = simp append_assoc
+pub regroup_half : (g z : ℕ) (f h i s l b : List ℕ) → f ++ (g ∷ (((h ++ i) ++ s) ++ z ∷ [])) ++ (l ++ b) ≡ f ++ ((((g ∷ h) ++ i) ++ s) ++ (z ∷ l)) ++ b
+regroup_half g z f h i s l b = simp append_assoc

@@ -55,7 +55,7 @@ ready_room a b r =
       opens = shown_opens r.cut a.plant (r.gate ∷ r.tail) r.stores r.reaches;
       in_epoch = refl;
       base = r.cut.base;
-      spells = record { sizes = r.stores.sizes; image = r.stores.image };
+      spells = record { sum = refl; sizes = r.stores.sizes; image = r.stores.image };
       left = suc (length r.tail);
       folds = folds r.cut.version r.cut.base r.cut.epoch r.cut.base.panel.count r.cut.frames r.gate r.tail r.stores.frames r.stores.borne r.stores.admitted r.closed
           ∙ ap (λ (q : Condensed). Ok (q, suc (length r.tail))) r.stores.runs;

@@ -4,10 +4,11 @@ use Rattle.std.proofs.lemmas.List.{append-nil}
 use Rattle.alm_types.specs.declared.action.Action.{Action}
 use Rattle.alm_codec.specs.Image.{image_text}
 use Rattle.alm_disk.specs.Device.{DeviceState, IsImage}
-use Rattle.alm_codec.specs.Versions.{newer}
+use Rattle.alm_codec.specs.Versions.{closed_gate, newer}
 use Rattle.alm_checkpoint.specs.Headers.{half_head_text}
 use Rattle.alm_checkpoint.specs.declared.layout.Layout.{Layout}
-use Rattle.alm_checkpoint.specs.Layouts.{device_len}
+use Rattle.alm_checkpoint.specs.Layouts.{device_len, other}
+use Rattle.alm_checkpoint.specs.Cut.{head_before}
 use Rattle.alm_keeper.specs.declared.book.Book.{Book}
 use Rattle.alm_store.specs.declared.refused.Refused.{Refused}
 use Rattle.alm_store.specs.declared.refused.Refused.TheVariants as no
@@ -102,8 +103,8 @@ pub still_fits : (old new : Book) (size : ℕ) → new.layout ≡ old.layout →
 still_fits old new size same f = record { fits = subst (λ (l : Layout). device_len l ≤ size) (sym same) f.fits; in_memory = f.in_memory }
 
 -- the run of a copy of which nothing went out
-run_is : (a : Account) → run_text a (new_copy a) ≡ half_head_text a.layout (newer a.version) (a.epoch + 1) a.plant.panel.count ++ image_text a.plant ++ 0 ∷ []
-run_is a = ap (λ (l : List ℕ). l ++ 0 ∷ []) (append-nil (half_head_text a.layout (newer a.version) (a.epoch + 1) a.plant.panel.count ++ image_text a.plant))
+run_is : (a : Account) → run_text a (new_copy a) ≡ half_head_text a.layout (other a.half) (head_before (newer a.version) (a.epoch + 1) a.plant) ++ image_text a.plant ++ closed_gate (newer a.version) ∷ []
+run_is a = ap (λ (l : List ℕ). l ++ closed_gate (newer a.version) ∷ []) (append-nil (half_head_text a.layout (other a.half) (head_before (newer a.version) (a.epoch + 1) a.plant) ++ image_text a.plant))
 
 pub copied_keeps : (result : Result Unit Refused) (old new : Book) (state : DeviceState) → Copies result old new → InOrder old → InOrder new → Keeps state old → Keeps state new
 copied_keeps (Ok _) old new state b before i k =

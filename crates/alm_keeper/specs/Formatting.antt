@@ -7,11 +7,12 @@ use Rattle.alm_codec.specs.declared.version.Version.{Version}
 use Rattle.alm_codec.specs.Image.{image_text}
 use Rattle.alm_disk.specs.Device.{DeviceState, IsImage, is_within}
 use Rattle.alm_disk.specs.Settled.{IsSettled}
-use Rattle.alm_segment.specs.Course.{is_gate_open}
+use Rattle.alm_codec.specs.Versions.{closed_gate}
 use Rattle.alm_checkpoint.specs.declared.layout.Layout.{Layout}
-use Rattle.alm_checkpoint.specs.declared.half.Half.TheVariants.{Second}
-use Rattle.alm_checkpoint.specs.Layouts.{layout_byte, half_at}
+use Rattle.alm_checkpoint.specs.declared.half.Half.TheVariants.{First, Second}
+use Rattle.alm_checkpoint.specs.Layouts.{layout_byte, is_header_open, half_at}
 use Rattle.alm_checkpoint.specs.Headers.{half_head_text, segment_fits}
+use Rattle.alm_checkpoint.specs.Cut.{head_before}
 use Rattle.alm_checkpoint.specs.declared.device_fault.DeviceFault.TheVariants.{Unformatted}
 use Rattle.alm_checkpoint.specs.Standing.{HasFault, Stands}
 use Rattle.alm_checkpoint.specs.Opening.{Opened, opened_in}
@@ -42,7 +43,7 @@ pub record IsOfVersion (version : Version) (bytes : List ℕ) : Type 0 where
 -- the header's gate reads closed, and no crash opens it
 pub record IsShut (state : DeviceState) : Type 0 where
   pub stable : state.pending 0 ≡ false
-  pub closed : is_gate_open (layout_byte state.bytes 0) ≡ false
+  pub closed : is_header_open (layout_byte state.bytes 0) ≡ false
 
 -- at any moment of a call a crash leaves a device that isn't formatted
 abbrev pub StaysUnformatted : (old new : DeviceState) → Type 0
@@ -63,7 +64,7 @@ overwritten at bytes device = take at device ++ bytes ++ drop (at + length bytes
 -- the device with all that is written after the header's gate: the header, half 0 up to its segment's first gate, half 1's gate,
 -- and half 0's gate, open
 abbrev pub with_empty_half : Layout → (header half : List ℕ) → List ℕ → List ℕ
-with_empty_half l header half device = overwritten 23 (165 ∷ []) (overwritten (half_at l Second) (0 ∷ []) (overwritten 23 half (overwritten 1 header device)))
+with_empty_half l header half device = overwritten 23 (165 ∷ []) (overwritten (half_at l Second) (closed_gate l.version ∷ []) (overwritten 23 half (overwritten 1 header device)))
 
 -- the header's gate is open too
 abbrev pub with_open_gate : List ℕ → List ℕ
@@ -71,7 +72,7 @@ with_open_gate device = overwritten 0 (165 ∷ []) device
 
 -- the device is settled, with the header's gate closed
 abbrev pub IsGateClosed : DeviceState → Type 0
-IsGateClosed state = IsSettled state state.bytes × (is_gate_open (layout_byte state.bytes 0) ≡ false)
+IsGateClosed state = IsSettled state state.bytes × (is_header_open (layout_byte state.bytes 0) ≡ false)
 
 -- these bytes are those of the device with the header's gate open
 abbrev pub IsWithGateOpen : DeviceState → List ℕ → Type 0
@@ -79,7 +80,7 @@ IsWithGateOpen state b = b ≡ with_open_gate state.bytes
 
 -- half 0 from its closed gate on, up to its segment's first gate, also closed
 abbrev pub first_half : Layout → Condensed → List ℕ
-first_half l plant = 0 ∷ (half_head_text l l.version 1 plant.panel.count ++ image_text plant ++ 0 ∷ [])
+first_half l plant = closed_gate l.version ∷ (half_head_text l First (head_before l.version 1 plant) ++ image_text plant ++ closed_gate l.version ∷ [])
 
 -- all of it is written on some device of a size
 pub record IsWritten (size : ℕ) (l : Layout) (header half bytes : List ℕ) : Type 0 where

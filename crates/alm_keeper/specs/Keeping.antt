@@ -7,12 +7,12 @@ use Rattle.alm_types.specs.declared.action.Action.{Action}
 use Rattle.alm_model.specs.Plant.{Condensed}
 use Rattle.alm_model.specs.Rules.{KeepsRules, AreAdmitted}
 use Rattle.alm_codec.specs.Frames.{IsFrame, frame_body}
-use Rattle.alm_codec.specs.Versions.{newer}
+use Rattle.alm_codec.specs.Versions.{closed_gate, newer}
 use Rattle.alm_codec.specs.Image.{IsOf, image_text}
 use Rattle.alm_segment.specs.Course.{frame_len}
 use Rattle.alm_checkpoint.specs.Headers.{half_head_text}
-use Rattle.alm_checkpoint.specs.Layouts.{image_size, device_len, head_len, segment_at}
-use Rattle.alm_checkpoint.specs.Cut.{IsLayout}
+use Rattle.alm_checkpoint.specs.Layouts.{image_size, device_len, head_len, segment_at, other}
+use Rattle.alm_checkpoint.specs.Cut.{IsLayout, head_before}
 use Rattle.alm_keeper.specs.declared.stage.Stage.{Stage}
 use Rattle.alm_keeper.specs.declared.stage.Stage.TheVariants.{Idle, Close, CloseSync, Body, GateSync, Stopped}
 use Rattle.alm_keeper.specs.declared.stage.Work.{Work}
@@ -140,7 +140,7 @@ pub record OpensCheckpoint (old new : Book) : Type 0 where
   pub actions : new.actions.items ≡ old.actions.items
   pub copying : new.copying ≡ true
   pub run : new.run ≡ head_len + image_size old.layout
-  pub text : run_in new ≡ half_head_text old.layout (newer old.version) (old.epoch + 1) old.stored.panel.count ++ image_text old.stored ++ 0 ∷ []
+  pub text : run_in new ≡ half_head_text old.layout (other old.half) (head_before (newer old.version) (old.epoch + 1) old.stored) ++ image_text old.stored ++ closed_gate (newer old.version) ∷ []
   pub out : new.out ≡ 0
   pub written : new.written ≡ old.written
 

@@ -2,14 +2,12 @@
 use Rattle.std.specs.Prelude.{◌≡◌, ℕ, List, Result, Ok, Err}
 use Rattle.alm_disk.specs.Failures.{HasFailed}
 use Rattle.alm_checkpoint.specs.declared.layout.Layout.{Layout}
-use Rattle.alm_checkpoint.specs.declared.half.Half.{Half}
 use Rattle.alm_checkpoint.specs.declared.half.Half.TheVariants.{First, Second}
 use Rattle.alm_keeper.specs.declared.opening.Marks.{Marks}
-use Rattle.alm_checkpoint.specs.declared.half_head.HalfHead.{HalfHead}
 use Rattle.alm_checkpoint.specs.declared.device_fault.DeviceFault.{DeviceFault}
 use Rattle.alm_checkpoint.specs.declared.device_fault.DeviceFault.TheVariants as found
 use Rattle.alm_checkpoint.specs.Layouts.{other}
-use Rattle.alm_checkpoint.specs.Opening.{◌>>=◌, Opened, chosen_from, half_head_from, head_of, gate_in}
+use Rattle.alm_checkpoint.specs.Opening.{Opened, heads_from, head_by, head_of, gate_in}
 use Rattle.alm_checkpoint.specs.Standing.{HasFault}
 use Rattle.alm_checkpoint.specs.Restoring.{IsUnrestored}
 use Rattle.alm_checkpoint.specs.Restoring.{Holds as RestoredAs}
@@ -51,24 +49,13 @@ OpensAs bytes (Err OutOfMemory) = Unit {0}
 OpensAs bytes (Err Unformatted) = HasFault bytes found.Unformatted
 OpensAs bytes (Err (Damaged half at)) = HasFault bytes (found.Damaged half at)
 
--- what the heads say, by their bytes
-abbrev pub head_by : Half → (first second : List ℕ) → List ℕ
-head_by First first second = first
-head_by Second first second = second
-
-abbrev pub marks_from : Layout → (first second : List ℕ) → Result (Half × HalfHead) DeviceFault
-marks_from l first second = do
-  h ← chosen_from l first second
-  t ← half_head_from l h (head_by h first second)
-  Ok (h, t)
-
 -- the half that stands, what its head says, and whether the other half's gate is open; or the fault
 abbrev pub MarksFrom : Layout → (first second : List ℕ) → Result Marks OpenFault → Type 0
-MarksFrom l first second (Ok m) = (chosen_from l first second ≡ Ok m.half) × (half_head_from l m.half (head_by m.half first second) ≡ Ok m.head) × (m.other_open ≡ gate_in (head_by (other m.half) first second))
+MarksFrom l first second (Ok m) = (heads_from l first second ≡ Ok (m.half, m.head)) × (m.other_open ≡ gate_in l.version (head_by (other m.half) first second))
 MarksFrom l first second (Err Disk) = Unit {0}
 MarksFrom l first second (Err OutOfMemory) = Unit {0}
-MarksFrom l first second (Err Unformatted) = marks_from l first second ≡ Err found.Unformatted
-MarksFrom l first second (Err (Damaged half at)) = marks_from l first second ≡ Err (found.Damaged half at)
+MarksFrom l first second (Err Unformatted) = heads_from l first second ≡ Err found.Unformatted
+MarksFrom l first second (Err (Damaged half at)) = heads_from l first second ≡ Err (found.Damaged half at)
 
 abbrev pub AreMarks : Layout → List ℕ → Result Marks OpenFault → Type 0
 AreMarks l b result = MarksFrom l (head_of l First b) (head_of l Second b) result

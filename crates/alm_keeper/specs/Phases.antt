@@ -2,6 +2,8 @@
 use Rattle.std.specs.Prelude.{◌≡◌, ◌⊎◌, ℕ, ◌+◌, ◌≤◌, true, false, List, [], ◌∷◌, length, take, drop, Option, Some, None, Result, Ok, ◌==◌, if◌then◌else◌}
 use Rattle.alm_types.specs.declared.action.Action.{Action}
 use Rattle.alm_model.specs.Rules.{AreAdmitted}
+use Rattle.alm_codec.specs.declared.version.Version.{Version}
+use Rattle.alm_codec.specs.Versions.{closed_gate}
 use Rattle.alm_codec.specs.Frames.{IsFrame, frame_body}
 use Rattle.alm_disk.specs.Device.{DeviceState, Writes, Syncs}
 use Rattle.alm_disk.specs.Device.{IsImage as IsLeft}
@@ -63,24 +65,24 @@ KeptIn (Pause k) a state = IsCopy a k × Paused a k state
 KeptIn (Frame other stage actions) a state = Commits a actions × Beside other a state × Kept (is_sent a (out_of other)) (Ready a) (Ready (with_commit a actions)) stage state a.gate (frame_body a.version a.epoch (a.plant.panel.count + 1) actions)
 KeptIn (End k stage) a state = Kept (λ place. false) (Ready a) (Ready (turned_by a k)) stage state (other_at a) (run_text a k)
 
--- the one call of a stage, for the gate at a place and the text after it
-abbrev pub StageCall : {E : Type 0} → Stage → (at : ℕ) (text : List ℕ) → Result Unit E → (old new : DeviceState) → Type 0
-StageCall Close at text result old new = Writes at (0 ∷ []) result old new
-StageCall CloseSync at text result old new = Syncs result old new
-StageCall Body at text result old new = Writes (at + 1) text result old new
-StageCall BodySync at text result old new = Syncs result old new
-StageCall Gate at text result old new = Writes at (165 ∷ []) result old new
-StageCall GateSync at text result old new = Syncs result old new
-StageCall stage at text result old new = ⊥
+-- the one call of a stage, for the gate at a place of a device of a version, and the text after it
+abbrev pub StageCall : {E : Type 0} → Version → Stage → (at : ℕ) (text : List ℕ) → Result Unit E → (old new : DeviceState) → Type 0
+StageCall version Close at text result old new = Writes at (closed_gate version ∷ []) result old new
+StageCall version CloseSync at text result old new = Syncs result old new
+StageCall version Body at text result old new = Writes (at + 1) text result old new
+StageCall version BodySync at text result old new = Syncs result old new
+StageCall version Gate at text result old new = Writes at (165 ∷ []) result old new
+StageCall version GateSync at text result old new = Syncs result old new
+StageCall version stage at text result old new = ⊥
 
 -- the device call that is next; of a pause a piece of n bytes
 abbrev pub MakesCall : {E : Type 0} → UnderWay → Account → (n : ℕ) → Result Unit E → (old new : DeviceState) → Type 0
 MakesCall Rest a n result old new = ⊥
-MakesCall (Shut k) a n result old new = Writes (other_at a) (0 ∷ []) result old new
+MakesCall (Shut k) a n result old new = Writes (other_at a) (closed_gate a.layout.version ∷ []) result old new
 MakesCall (ShutSync k) a n result old new = Syncs result old new
 MakesCall (Pause k) a n result old new = (k.out + n ≤ length (run_text a k)) × Writes (other_at a + 1 + k.out) (take n (drop k.out (run_text a k))) result old new
-MakesCall (Frame other stage actions) a n result old new = StageCall stage a.gate (frame_body a.version a.epoch (a.plant.panel.count + 1) actions) result old new
-MakesCall (End k stage) a n result old new = StageCall stage (other_at a) (run_text a k) result old new
+MakesCall (Frame other stage actions) a n result old new = StageCall a.layout.version stage a.gate (frame_body a.version a.epoch (a.plant.panel.count + 1) actions) result old new
+MakesCall (End k stage) a n result old new = StageCall a.layout.version stage (other_at a) (run_text a k) result old new
 
 -- what a crash leaves at any moment of it
 abbrev pub DuringIn : UnderWay → Account → List ℕ → Type 0

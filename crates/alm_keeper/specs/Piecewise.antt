@@ -4,12 +4,13 @@ use Rattle.alm_types.specs.declared.action.Action.{Action}
 use Rattle.alm_model.specs.Plant.{Condensed}
 use Rattle.alm_model.specs.Step.{run}
 use Rattle.alm_model.specs.Rules.{AreAdmitted}
-use Rattle.alm_codec.specs.Versions.{newer}
+use Rattle.alm_codec.specs.Versions.{closed_gate, newer}
 use Rattle.alm_codec.specs.Image.{IsImageText, IsOf, image_text}
 use Rattle.alm_disk.specs.Device.{DeviceState, is_within}
 use Rattle.alm_disk.specs.Device.{IsImage as IsLeft}
-use Rattle.alm_segment.specs.Texts.{frames_text, AreFrames, actions_in}
+use Rattle.alm_segment.specs.Texts.{Frame, written, frames_text, AreFrames, actions_in}
 use Rattle.alm_checkpoint.specs.Layouts.{part, segment_at, other}
+use Rattle.alm_checkpoint.specs.Cut.{head_before}
 use Rattle.alm_checkpoint.specs.Headers.{half_head_text}
 use Rattle.alm_keeper.specs.Stand.{Ready, Account, other_at}
 use Rattle.alm_keeper.specs.Resting.{RestsBut}
@@ -18,7 +19,7 @@ use Rattle.alm_types.specs.Sizes.{most_actions}
 -- an open checkpoint: the plant that was copied, the frames committed since, and how many bytes of the run went out
 pub record Copy : Type 0 where
   pub base : Condensed
-  pub since : List (List Action)
+  pub since : List Frame
   pub out : ℕ
 
 -- the copy of what is stored, as the checkpoint is begun
@@ -31,11 +32,11 @@ since_text a k = frames_text (newer a.version) (a.epoch + 1) k.base.panel.count 
 
 -- what precedes the run's last byte, its closed gate: the head from its offset 1, the image, the frames since
 abbrev pub open_text : Account → Copy → List ℕ
-open_text a k = half_head_text a.layout (newer a.version) (a.epoch + 1) k.base.panel.count ++ image_text k.base ++ since_text a k
+open_text a k = half_head_text a.layout (other a.half) (head_before (newer a.version) (a.epoch + 1) k.base) ++ image_text k.base ++ since_text a k
 
 -- the run
 abbrev pub run_text : Account → Copy → List ℕ
-run_text a k = open_text a k ++ 0 ∷ []
+run_text a k = open_text a k ++ closed_gate (newer a.version) ∷ []
 
 -- the copy is of this account: its frames make the stored plant of the copied one
 pub record IsCopy (a : Account) (k : Copy) : Type 0 where
@@ -43,7 +44,7 @@ pub record IsCopy (a : Account) (k : Copy) : Type 0 where
   pub image : IsImageText k.base (image_text k.base)
   pub sizes : IsOf a.layout.rows a.layout.areas k.base.panel.count k.base
   pub count : k.base.panel.count ≤ most_actions
-  pub frames : AreFrames (a.epoch + 1) k.base.panel.count k.since
+  pub frames : AreFrames (newer a.version) (a.epoch + 1) k.base.panel.count k.since
   pub admitted : AreAdmitted k.base (actions_in k.since)
   pub runs : run k.base (actions_in k.since) ≡ a.plant
   -- the frames since are among the frames of the half that stands: so they fit the other one
@@ -74,7 +75,7 @@ turned_by a k = record a { half = other a.half; other_open = true; version = new
 
 -- one frame more
 abbrev pub with_copied_frame : Copy → List Action → Copy
-with_copied_frame k actions = record k { since = k.since ++ actions ∷ [] }
+with_copied_frame k actions = record k { since = k.since ++ written actions ∷ [] }
 
 -- n bytes more went out
 abbrev pub with_sent_bytes : Copy → ℕ → Copy

@@ -4,8 +4,8 @@ use Rattle.alm_types.specs.declared.action.Action.{Action}
 use Rattle.alm_model.specs.Plant.{Condensed}
 use Rattle.alm_model.specs.Step.{run}
 use Rattle.alm_codec.specs.declared.version.Version.{Version}
-use Rattle.alm_codec.specs.Versions.{AreBorne, newer}
-use Rattle.alm_segment.specs.Course.{is_gate_open, frame_len}
+use Rattle.alm_codec.specs.Versions.{AreBorne, is_open, newer}
+use Rattle.alm_segment.specs.Course.{frame_len}
 use Rattle.alm_checkpoint.specs.declared.layout.Layout.{Layout}
 use Rattle.alm_checkpoint.specs.declared.half.Half.{Half}
 use Rattle.alm_checkpoint.specs.Layouts.{layout_byte, half_at, half_len, other}
@@ -17,7 +17,7 @@ pub record HoldsPlant (epoch : ℕ) (plant : Condensed) (bytes : List ℕ) : Typ
   pub in_epoch : cut.epoch ≡ epoch
   pub stores : Stores cut plant
   pub gate : ℕ
-  pub closed : is_gate_open gate ≡ false
+  pub closed : is_open cut.version gate ≡ false
   pub tail : List ℕ
   pub reaches : Reaches cut (gate ∷ tail)
   pub text : bytes ≡ device_of cut (gate ∷ tail)
@@ -38,7 +38,7 @@ pub record Account : Type 0 where
 
 -- what a keeper knows of a device that is cut so
 abbrev pub account_of : Cut → Condensed → Account
-account_of c plant = record { layout = c.layout; half = c.half; other_open = is_gate_open (layout_byte c.other 0); version = c.version; epoch = c.epoch; gate = length (front c); plant = plant }
+account_of c plant = record { layout = c.layout; half = c.half; other_open = is_open c.layout.version (layout_byte c.other 0); version = c.version; epoch = c.epoch; gate = length (front c); plant = plant }
 
 -- the device is as the account says
 pub record Ready (a : Account) (bytes : List ℕ) : Type 0 where
@@ -46,7 +46,7 @@ pub record Ready (a : Account) (bytes : List ℕ) : Type 0 where
   pub is : a ≡ account_of cut a.plant
   pub stores : Stores cut a.plant
   pub gate : ℕ
-  pub closed : is_gate_open gate ≡ false
+  pub closed : is_open cut.version gate ≡ false
   pub tail : List ℕ
   pub reaches : Reaches cut (gate ∷ tail)
   pub text : bytes ≡ device_of cut (gate ∷ tail)

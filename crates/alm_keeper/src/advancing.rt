@@ -28,15 +28,22 @@ fn call_next<D: Disk>(disk: &mut D, book: &Book) -> Result<(), DiskFault>
         ∥ PassesOn result (D.state disk.old) (D.state disk.new) book.now ∥₁ }
 {
     match book.work {
-        Work::Commit => call(disk, book.stage, book.gate, &book.frame[..book.frame_len()]),
+        Work::Commit => call(
+            disk,
+            book.stage,
+            book.gate,
+            &book.frame[..book.frame_len()],
+            book.layout.version,
+        ),
         Work::Checkpoint => match book.stage {
             Stage::Body => call(
                 disk,
                 Stage::Body,
                 book.other_at() + book.out as u64,
                 book.piece(),
+                book.layout.version,
             ),
-            stage => call(disk, stage, book.other_at(), &[]),
+            stage => call(disk, stage, book.other_at(), &[], book.layout.version),
         },
     }
 }

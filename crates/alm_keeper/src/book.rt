@@ -18,7 +18,7 @@ use crate::frame::{append_frame, write_frame};
 use crate::half_text::write_half;
 use crate::stage::{Stage, Work, phase_of};
 use crate::trying::try_all;
-use alm_checkpoint::{HEAD_LEN, HEADER_LEN, Half, HalfHead, Layout};
+use alm_checkpoint::{HEAD_LEN, HEADER_LEN, Half, Layout};
 use alm_codec::Version;
 use alm_model::{Alarms, accepted_in, apply_all};
 use alm_plant::Plant;
@@ -363,12 +363,17 @@ impl Book {
         if self.epoch == u64::MAX {
             return Err(Refused::Exhausted);
         }
-        let head = HalfHead {
-            epoch: self.epoch + 1,
-            version: self.version.newer(),
-            count: self.stored.count(),
-        };
-        write_half(&self.layout, &head, &self.stored, &mut self.buffer);
+        let half = self.half.other();
+        let version = self.version.newer();
+        let epoch = self.epoch + 1;
+        write_half(
+            &self.layout,
+            half,
+            version,
+            epoch,
+            &self.stored,
+            &mut self.buffer,
+        );
         self.copying = true;
         self.run = HEAD_LEN + self.layout.image_len();
         self.out = 0;

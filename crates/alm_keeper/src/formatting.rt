@@ -5,15 +5,14 @@ ghost use Rattle.std.specs.Prelude.{◌≡◌, ◌≤◌, ◌<◌, ◌+◌, ◌�
 ghost use Rattle.alm_disk.specs.Device.{IsImage, Writes, Syncs};
 ghost use Rattle.alm_disk.specs.Failures.{CountsFault};
 ghost use Rattle.alm_disk.specs.Settled.{IsSettled};
-ghost use Rattle.alm_segment.specs.Course.{is_gate_open};
-ghost use Rattle.alm_checkpoint.specs.Layouts.{layout_byte, device_len, image_size};
+ghost use Rattle.alm_checkpoint.specs.Layouts.{layout_byte, is_header_open, device_len, image_size};
 ghost use Rattle.alm_keeper.specs.Formatting.{IsShut, IsUnformatted, StaysUnformatted, LeavesBefore, with_empty_half, with_open_gate, IsGateClosed, IsWithGateOpen, IsWritten, Leaves};
 ghost use Rattle.alm_keeper.specs.Moments.{FormatMoment, Never, IsLedBy, FailsIn, close_calls, behind_calls, open_calls, format_calls};
 ghost use Rattle.alm_disk.specs.declared.call.Call.TheVariants.{Write, Sync};
 
 use alm_checkpoint::{HEADER_LEN, Half, Layout};
+use alm_codec::OPEN_GATE;
 use alm_disk::{Disk, DiskFault};
-use alm_segment::OPEN_GATE;
 
 /// Closes the header's gate.
 fn close_header<D: Disk>(disk: &mut D) -> Result<(), DiskFault>
@@ -102,7 +101,11 @@ fn write_behind<D: Disk>(
 {
     write_shut(disk, 1, header)?;
     write_shut(disk, HEADER_LEN as u64, half)?;
-    write_shut(disk, layout.half_at(Half::Second), &[0])?;
+    write_shut(
+        disk,
+        layout.half_at(Half::Second),
+        &[layout.version.closed_gate()],
+    )?;
     sync_shut(disk)?;
     write_shut(disk, HEADER_LEN as u64, &[OPEN_GATE])?;
     sync_shut(disk)
@@ -118,7 +121,7 @@ fn open_gate<D: Disk>(disk: &mut D) -> Result<(), DiskFault>
     ensures writes { D.honest disk.old →
         Writes 0 (165 ∷ []) result (D.state disk.old) (D.state disk.new) }
     ensures any_moment { (b c : List ℕ) → D.honest disk.old → IsSettled (D.state disk.old) b →
-        is_gate_open (layout_byte b 0) ≡ false →
+        is_header_open (layout_byte b 0) ≡ false →
         IsImage (D.state disk.old) c ⊎ IsImage (D.state disk.new) c →
         IsUnformatted c ⊎ (c ≡ with_open_gate b) }
 {
@@ -147,7 +150,7 @@ fn open_header<D: Disk>(disk: &mut D) -> Result<(), DiskFault>
     ensures opened { (b : List ℕ) → D.honest disk.old → IsSettled (D.state disk.old) b →
         OnOk result (IsSettled (D.state disk.new) (with_open_gate b)) }
     ensures either { (b c : List ℕ) → D.honest disk.old → IsSettled (D.state disk.old) b →
-        is_gate_open (layout_byte b 0) ≡ false → IsImage (D.state disk.new) c →
+        is_header_open (layout_byte b 0) ≡ false → IsImage (D.state disk.new) c →
         IsUnformatted c ⊎ (c ≡ with_open_gate b) }
     ensures goes { OnOk result
         (IsLedBy

@@ -8,13 +8,17 @@ ghost use Rattle.alm_store.specs.Calls.{IsCall};
 ghost use Rattle.alm_keeper.specs.Phases.{StageCall};
 
 use crate::stage::Stage;
+use alm_codec::{OPEN_GATE, Version};
 use alm_disk::{Disk, DiskFault};
-use alm_segment::OPEN_GATE;
 
-const CLOSED: u8 = 0;
-
-/// The one device call of a stage, for the text after the gate at a place.
-pub fn call<D: Disk>(disk: &mut D, stage: Stage, at: u64, text: &[u8]) -> Result<(), DiskFault>
+/// The one device call of a stage, for the text after the gate at a place, on a device of a version.
+pub fn call<D: Disk>(
+    disk: &mut D,
+    stage: Stage,
+    at: u64,
+    text: &[u8],
+    version: Version,
+) -> Result<(), DiskFault>
     requires working { IsWorking stage }
     requires in_range { at + 1 + length text.now ≤ D.size disk.old }
     requires in_memory { D.size disk.old < 2 ^ 64 }
@@ -24,10 +28,10 @@ pub fn call<D: Disk>(disk: &mut D, stage: Stage, at: u64, text: &[u8]) -> Result
     ensures serves { D.serves disk.old (stage_call stage at (length text.now)) result disk.new }
     ensures is_call { D.honest disk.old → IsCall (D.state disk.old) (D.state disk.new) }
     ensures stage_call { D.honest disk.old →
-        StageCall stage at text.now result (D.state disk.old) (D.state disk.new) }
+        StageCall version stage at text.now result (D.state disk.old) (D.state disk.new) }
 {
     match stage {
-        Stage::Close => disk.write_at(at, &[CLOSED]),
+        Stage::Close => disk.write_at(at, &[version.closed_gate()]),
         Stage::CloseSync => disk.sync(),
         Stage::Body => disk.write_at(at + 1, text),
         Stage::BodySync => disk.sync(),

@@ -32,7 +32,7 @@
 //! PRIO nor SETP. A checkpoint makes a half of version 03 if the one that stands is of version 03, else one of version 02. So if
 //! [`Keeper::takes`] is false because of an action's kind, a checkpoint comes first.
 //!
-//! A gate is one byte, open if it is 0xA5. A commit writes the body of a frame after the first closed gate of the half that
+//! A gate is one byte, open if it is 0xA5, and in version 03 if it isn't 0x5A. A commit writes the body of a frame after the first closed gate of the half that
 //! stands; a checkpoint writes its run after the gate of the other half.
 //!
 //! The definitions are in specs/:
@@ -56,7 +56,7 @@
 //! last byte was read. For every device these hold: safety, the answers of `begin`, and that `Failed` and `Disk` mean a failure of
 //! the device in that very call. Only `format` and `open_store` take
 //! memory: the room of each vector of a book never changes. Not covered: that memory suffices, which tests show; time; and that
-//! damaged bytes are found out (there is no checksum).
+//! damaged bytes are found out (versions 01 and 02 have no checksum).
 //!
 //! Proved:
 //! - a keeper is a store as alm_store asks (by `Keeper`)

@@ -23,7 +23,7 @@ use crate::frame::FRAME_ROOM;
 use crate::open_fault::open_fault;
 use crate::stage::{Stage, Work};
 use alm_checkpoint::{
-    HEAD_LEN, HEADER_LEN, Half, HalfHead, Layout, RestoreFault, choose, read_half_gate, read_header,
+    HEAD_LEN, HEADER_LEN, Half, HalfHead, Layout, RestoreFault, read_half_gate, read_header,
 };
 use alm_disk::{Disk, DiskFault};
 use alm_model::Alarms;
@@ -130,26 +130,18 @@ fn marks_of(layout: Layout, first: &[u8], second: &[u8]) -> Result<Marks, OpenFa
     ensures count { IfOk result (λ m. m.head.count ≤ most_actions) }
     ensures fault { IfErr result (λ f. f ≢ OpenFault.Disk) }
 {
-    let zero = read_half_gate(first);
-    let one = read_half_gate(second);
-    match choose(&zero, &one) {
-        Err(why) => Err(open_fault(why.fault(&layout))),
-        Ok(Half::First) => match layout.read_half_head(Half::First, first) {
-            Ok(head) => Ok(Marks {
-                half: Half::First,
-                other_open: one.open,
-                head,
-            }),
-            Err(fault) => Err(open_fault(fault)),
-        },
-        Ok(Half::Second) => match layout.read_half_head(Half::Second, second) {
-            Ok(head) => Ok(Marks {
-                half: Half::Second,
-                other_open: zero.open,
-                head,
-            }),
-            Err(fault) => Err(open_fault(fault)),
-        },
+    match layout.read_heads(first, second) {
+        Ok((Half::First, head)) => Ok(Marks {
+            half: Half::First,
+            other_open: read_half_gate(second, layout.version).open,
+            head,
+        }),
+        Ok((Half::Second, head)) => Ok(Marks {
+            half: Half::Second,
+            other_open: read_half_gate(first, layout.version).open,
+            head,
+        }),
+        Err(fault) => Err(open_fault(fault)),
     }
 }
 

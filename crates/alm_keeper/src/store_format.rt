@@ -16,7 +16,7 @@ ghost use Rattle.alm_types.specs.Sizes.{most_actions};
 use crate::format_fault::FormatFault;
 use crate::formatting::write_all;
 use crate::half_text::put_half;
-use alm_checkpoint::{HEAD_LEN, HEADER_LEN, HalfHead, Layout};
+use alm_checkpoint::{HEAD_LEN, HEADER_LEN, Half, Layout};
 use alm_codec::Version;
 use alm_disk::Disk;
 use alm_model::Alarms;
@@ -42,14 +42,10 @@ fn put_first_half(layout: &Layout, plant: &Plant, out: &mut [u8])
     requires count { plant.now.panel.count ≤ most_actions }
     requires room { length out.old ≡ 26 + image_size layout.now }
     ensures text { out.new ≡ first_half layout.now plant.now }
+    ensures long { length out.new ≡ length out.old }
 {
-    let head = HalfHead {
-        epoch: 1,
-        version: layout.version,
-        count: plant.count(),
-    };
-    out[0] = 0;
-    put_half(layout, &head, plant, &mut out[1..]);
+    out[0] = layout.version.closed_gate();
+    put_half(layout, Half::First, layout.version, 1, plant, &mut out[1..]);
 }
 
 /// Half 0 of the new plant of a table.

@@ -179,10 +179,13 @@ fn the_bytes_of_version_03(rt: HostRuntime) -> Result<(), Fail> {
     };
     let start = [
         0xa5, 0x41, 0x4c, 0x4d, 0x53, 0x52, 0x56, 0x30, 0x33, 0, 0, 0, 4, 0, 2, 0, 0, 0, 0, 0, 0,
-        0x10, 0x14, 0xa5, 0, 0, 0, 0, 0, 0, 0, 1, 0xfd, 0, 0, 0, 0, 0, 0, 0, 0, 0, 0, 0, 0, 0,
-        0x28, 0x6a,
+        0x10, 0x14, 0xa5, 0, 0, 0, 0, 0, 0, 0, 1, 0xfd, 0, 0, 0, 0, 0, 0, 0, 0xa0, 0x9e, 0xb7,
+        0xcb, 0xd0, 0xa2, 0xc8, 0xdd,
     ];
     assert_eq!(rt; disk.bytes().get(..48), Some(start.as_slice()));
+    // The gate of the first frame, and that of the second half.
+    assert_eq!(rt; disk.bytes().get(10_394..10_395), Some([0x5a].as_slice()));
+    assert_eq!(rt; disk.bytes().get(14_510..14_511), Some([0x5a].as_slice()));
     assert_eq!(rt; epoch(alloc, disk), Ok(1));
     Ok(())
 }

@@ -103,7 +103,8 @@ fn a_checkpoint_of_version_03(rt: HostRuntime) -> Result<(), Fail> {
     let name = *b"ALMSRV03";
     assert_eq!(rt; disk.bytes().get(1..9), Some(name.as_slice()));
     let head = [
-        0xa5, 0, 0, 0, 0, 0, 0, 0, 2, 0xfd, 0, 0, 0, 0, 0, 0, 2, 0, 0, 0, 0, 0, 0, 0x28, 0x6a,
+        0xa5, 0, 0, 0, 0, 0, 0, 0, 2, 0xfd, 0, 0, 0, 0, 0, 0, 2, 0x79, 0x62, 0x41, 0x2f, 0xb5,
+        0x4b, 0x67, 0xee,
     ];
     assert_eq!(rt; disk.bytes().get(14_510..14_535), Some(head.as_slice()));
     let keeper = open(alloc, disk)?;

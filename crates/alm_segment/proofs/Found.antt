@@ -1,7 +1,6 @@
 -- What a scanner found in a segment is in it: open frames, and a closed gate after them.
 use Rattle.std.proofs.Common.{◌≡◌, ℕ, zero, suc, ◌+◌, ◌-◌, ◌*◌, ◌<◌, ◌≤◌, Bool, true, false, List, [], ◌∷◌, ◌++◌, length, take, drop, Option, Some, None, Result, Ok, Err, refl, sym, ap, subst, ◌∙◌, append_assoc, arith, length-append, length-drop}
 use Rattle.std.specs.List.{flat_map, AllByRecursion}
-use Rattle.std.proofs.lemmas.Bool.{eqb-true}
 use Rattle.std.proofs.lemmas.List.{take-append-drop}
 use Rattle.std.proofs.lemmas.List.Elements.{All-from_recursion, All-append, All-nil}
 use Rattle.alm_types.specs.declared.action.Action.{Action}
@@ -12,7 +11,7 @@ use Rattle.alm_model.specs.Accept.{refusal}
 use Rattle.alm_model.specs.Step.{step, run}
 use Rattle.alm_model.specs.Rules.{AreAdmitted}
 use Rattle.alm_codec.specs.declared.version.Version.{Version}
-use Rattle.alm_codec.specs.Versions.{IsBorne, AreBorne, sum_text}
+use Rattle.alm_codec.specs.Versions.{IsBorne, AreBorne, is_open, sum_text}
 use Rattle.alm_codec.specs.Actions.{action_text, action_in}
 use Rattle.alm_codec.specs.Frames.{frame_head, frame_text, head_at}
 use Rattle.alm_codec.specs.Reading.{IsBytes}
@@ -21,10 +20,10 @@ use Rattle.alm_codec.proofs.Actions.{borne_action_takes}
 use Rattle.alm_codec.proofs.Numbers.{ok_is, Takes, Takes-then}
 use Rattle.alm_codec.proofs.FrameHeads.{Heads, head_takes}
 use Rattle.alm_codec.proofs.Frames.{head_then}
-use Rattle.alm_segment.specs.Course.{Course, Fails, course, is_gate_open}
+use Rattle.alm_segment.specs.Course.{Course, Fails, course}
 use Rattle.alm_segment.specs.Folding.{after_replay, unless_refused, stored_in}
 use Rattle.alm_segment.specs.Journal.{IsJournal}
-use Rattle.alm_segment.specs.Texts.{frames_text, AreFrames, actions_in}
+use Rattle.alm_segment.specs.Texts.{Frame, frames_text, AreFrames, actions_in}
 use Rattle.alm_segment.proofs.Courses.{gives, no_action, no_gate, closed, opens, no_head}
 use Rattle.alm_model.proofs.Runs.{run_append, admitted_join}
 use Rattle.alm_segment.proofs.Segments.{timely}
@@ -80,13 +79,13 @@ several version (suc n) q epoch count bytes end fits long e = one version n (sev
 -- ---- frames
 
 pub record Found (version : Version) (q : Condensed) (epoch count : ℕ) (bytes : List ℕ) (end : Condensed × ℕ) : Type 0 where
-  pub frames : List (List Action)
+  pub frames : List Frame
   pub gate : ℕ
   pub tail : List ℕ
   pub parts : bytes ≡ frames_text version epoch count frames ++ gate ∷ tail
-  pub shut : is_gate_open gate ≡ false
+  pub shut : is_open version gate ≡ false
   pub left : end.1 ≡ 1 + length tail
-  pub are_frames : AreFrames epoch count frames
+  pub are_frames : AreFrames version epoch count frames
   pub borne : AreBorne version (actions_in frames)
   pub admitted : AreAdmitted q (actions_in frames)
   pub runs : run q (actions_in frames) ≡ end.0
@@ -94,7 +93,7 @@ pub record Found (version : Version) (q : Condensed) (epoch count : ℕ) (bytes 
 abbrev ended : Condensed → ℕ → Result End ℕ
 ended q left = Ok (q, left)
 
-on_closed : (version : Version) (q : Condensed) (epoch count gate : ℕ) (bytes : List ℕ) (end : End) → is_gate_open gate ≡ false → after_replay q (course version epoch count 0 0 (gate ∷ bytes)) ≡ Ok end → Found version q epoch count (gate ∷ bytes) end
+on_closed : (version : Version) (q : Condensed) (epoch count gate : ℕ) (bytes : List ℕ) (end : End) → is_open version gate ≡ false → after_replay q (course version epoch count 0 0 (gate ∷ bytes)) ≡ Ok end → Found version q epoch count (gate ∷ bytes) end
 on_closed version q epoch count gate bytes end shut e =
     let same = ok_is {A = End} (q, suc (length bytes)) end (sym (ap (after_replay q) (closed version epoch count (gate ∷ bytes) (omega arith) shut)) ∙ e) in
     record {
@@ -114,21 +113,22 @@ both_borne : (version : Version) (xs ys : List Action) → AreBorne version xs �
 both_borne version xs ys p q = All-append (IsBorne version) xs ys p q
 
 -- a frame, and what is found after it
-with_frame : (version : Version) (q : Condensed) (epoch count n : ℕ) (bytes rest : List ℕ) (end : End) → Heads version epoch count bytes (n, rest) → (s : Several version q epoch (count + n) n rest end)
-    → Found version (run q s.list) epoch (count + n) s.after end → Found version q epoch count (165 ∷ bytes) end
-with_frame version q epoch count n bytes rest end h s f =
+with_frame : (version : Version) (q : Condensed) (epoch count n own : ℕ) (bytes rest : List ℕ) (end : End) → is_open version own ≡ true → Heads version epoch count bytes (n, rest) → (s : Several version q epoch (count + n) n rest end)
+    → Found version (run q s.list) epoch (count + n) s.after end → Found version q epoch count (own ∷ bytes) end
+with_frame version q epoch count n own bytes rest end opened h s f =
     let text : bytes ≡ frame_text version epoch (count + 1) s.list ++ s.after = (head_then version epoch count bytes n rest s.list s.after h s.number s.taken).parts in
     let after : s.after ≡ frames_text version epoch (count + length s.list) f.frames ++ f.gate ∷ f.tail = f.parts ∙ ap (λ (k : ℕ). frames_text version epoch (count + k) f.frames ++ f.gate ∷ f.tail) (sym s.number) in
     record {
-      frames = s.list ∷ f.frames;
+      frames = (record { gate = own; actions = s.list }) ∷ f.frames;
       gate = f.gate;
       tail = f.tail;
-      parts = ap (λ (l : List ℕ). 165 ∷ l) (text ∙ ap (λ (l : List ℕ). frame_text version epoch (count + 1) s.list ++ l) after ∙ sym (append_assoc (frame_text version epoch (count + 1) s.list) (frames_text version epoch (count + length s.list) f.frames) (f.gate ∷ f.tail)));
+      parts = ap (λ (l : List ℕ). own ∷ l) (text ∙ ap (λ (l : List ℕ). frame_text version epoch (count + 1) s.list ++ l) after ∙ sym (append_assoc (frame_text version epoch (count + 1) s.list) (frames_text version epoch (count + length s.list) f.frames) (f.gate ∷ f.tail)));
       shut = f.shut;
       left = f.left;
       are_frames = (
+        opened,
         record { fits = h.fits; some = omega (arith, h.some, s.number); few = omega (arith, h.few, s.number); limits = All-from_recursion IsAction s.list s.limits },
-        subst (λ (k : ℕ). AreFrames epoch (count + k) f.frames) (sym s.number) f.are_frames,
+        subst (λ (k : ℕ). AreFrames version epoch (count + k) f.frames) (sym s.number) f.are_frames,
       );
       borne = both_borne version s.list (actions_in f.frames) (All-from_recursion (IsBorne version) s.list s.borne) f.borne;
       admitted = admitted_join q s.list (actions_in f.frames) s.admitted f.admitted;
@@ -138,7 +138,7 @@ with_frame version q epoch count n bytes rest end h s f =
 abbrev Founds : Version → ℕ → Type 0
 Founds version most = (q : Condensed) (epoch count : ℕ) (bytes : List ℕ) (end : End) → length bytes < most → IsBytes bytes → after_replay q (course version epoch count 0 0 bytes) ≡ Ok end → Found version q epoch count bytes end
 
-on_head : (version : Version) (most : ℕ) → Founds version most → (q : Condensed) (epoch count gate : ℕ) (bytes : List ℕ) (end : End) (r : Result (ℕ × List ℕ) ℕ) → head_at version epoch count bytes ≡ r → is_gate_open gate ≡ true → length bytes < most → IsBytes bytes
+on_head : (version : Version) (most : ℕ) → Founds version most → (q : Condensed) (epoch count gate : ℕ) (bytes : List ℕ) (end : End) (r : Result (ℕ × List ℕ) ℕ) → head_at version epoch count bytes ≡ r → is_open version gate ≡ true → length bytes < most → IsBytes bytes
     → after_replay q (course version epoch count 0 0 (gate ∷ bytes)) ≡ Ok end → Found version q epoch count (gate ∷ bytes) end
 on_head version most again q epoch count gate bytes end (Err left) read open_gate few fits e = absurd (fails_not left end q _ (no_head version epoch count left (gate ∷ bytes) (omega arith) open_gate read) e)
 on_head version most again q epoch count gate bytes end (Ok x) read open_gate few fits e =
@@ -151,16 +151,16 @@ on_head version most again q epoch count gate bytes end (Ok x) read open_gate fe
       ap length s.taken.parts ∙ length-append (flat_map action_text s.list) s.after,
     ) in
     let f = again (run q s.list) epoch (count + x.0) s.after end shorter s.taken.rest_fits s.more in
-    subst (λ (g : ℕ). Found version q epoch count (g ∷ bytes) end) (sym (eqb-true gate 165 open_gate)) (with_frame version q epoch count x.0 bytes x.1 end h s f)
+    with_frame version q epoch count x.0 gate bytes x.1 end open_gate h s f
 
-on_gate : (version : Version) (most : ℕ) → Founds version most → (q : Condensed) (epoch count gate : ℕ) (bytes : List ℕ) (end : End) (b : Bool) → is_gate_open gate ≡ b → length bytes < most → IsBytes bytes → after_replay q (course version epoch count 0 0 (gate ∷ bytes)) ≡ Ok end → Found version q epoch count (gate ∷ bytes) end
+on_gate : (version : Version) (most : ℕ) → Founds version most → (q : Condensed) (epoch count gate : ℕ) (bytes : List ℕ) (end : End) (b : Bool) → is_open version gate ≡ b → length bytes < most → IsBytes bytes → after_replay q (course version epoch count 0 0 (gate ∷ bytes)) ≡ Ok end → Found version q epoch count (gate ∷ bytes) end
 on_gate version most again q epoch count gate bytes end false shut few fits e = on_closed version q epoch count gate bytes end shut e
 on_gate version most again q epoch count gate bytes end true open_gate few fits e = on_head version most again q epoch count gate bytes end (head_at version epoch count bytes) refl open_gate few fits e
 
 found_in : (version : Version) (most : ℕ) → Founds version most
 found_in version zero q epoch count bytes end few fits e = absurd (omega (arith, few))
 found_in version (suc most) q epoch count [] end few fits e = absurd (fails_not 0 end q _ (no_gate version epoch count 0 [] (omega arith)) e)
-found_in version (suc most) q epoch count (gate ∷ bytes) end few fits e = on_gate version most (found_in version most) q epoch count gate bytes end (is_gate_open gate) refl (omega (arith, few)) (IsBytes-drop 1 (gate ∷ bytes) fits) e
+found_in version (suc most) q epoch count (gate ∷ bytes) end few fits e = on_gate version most (found_in version most) q epoch count gate bytes end (is_open version gate) refl (omega (arith, few)) (IsBytes-drop 1 (gate ∷ bytes) fits) e
 
 pub found : (version : Version) (q : Condensed) (epoch count : ℕ) (bytes : List ℕ) (end : Condensed × ℕ) → IsBytes bytes → after_replay q (course version epoch count 0 0 bytes) ≡ Ok end → Found version q epoch count bytes end
 found version q epoch count bytes end fits e = found_in version (suc (length bytes)) q epoch count bytes end (omega arith) fits e

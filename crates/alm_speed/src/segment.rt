@@ -3,8 +3,8 @@
 //! `bench/segment/run.sh` compares it with a loop in C that reads the same fields.
 
 use crate::report::report;
-use alm_codec::{Version, write_frame_body};
-use alm_segment::{OPEN_GATE, Scanner};
+use alm_codec::{OPEN_GATE, Version, write_frame_body};
+use alm_segment::Scanner;
 use alm_types::{Action, AlarmId, Reading};
 use anyhow::{Result, anyhow};
 use std::alloc::Global;
@@ -38,7 +38,7 @@ fn segment(alloc: Global) -> Result<Vec<u8>> {
         if actions.is_empty() || actions.len() > 256 || body.len() < 19 + 16 * actions.len() {
             return Err(anyhow!("frame"));
         }
-        write_frame_body(Version::V02, 1, first, &actions, &mut body);
+        write_frame_body(1, first, &actions, &mut body, Version::V02);
         bytes.push(OPEN_GATE)?;
         bytes.extend_from_slice(body.get(..4114).ok_or_else(|| anyhow!("body"))?)?;
         first = first.wrapping_add(256);

@@ -13,7 +13,7 @@
 //! a table. Of two texts that differ within four neighbouring bytes alone the checksums differ. Not covered: texts that differ in
 //! more places, or in length; these may have one checksum. It is no signature: whoever changes a text can make its checksum too.
 //!
-//! It is for the texts of version 03 in `alm_codec`. No call here takes memory.
+//! It is for the texts of version 03 in `alm_codec` and `alm_checkpoint`. No call here takes memory.
 //!
 //! Proved:
 //! - the checksum that is looked up is the one that is divided bit by bit; a change within four neighbouring bytes changes it

@@ -1,4 +1,4 @@
-use Rattle.std.proofs.Common.{subst, ◌∙◌, ℕ, arith, rules}
+use Rattle.std.proofs.Common.{subst, arith, rules}
 use Rattle.alm_codec.specs.Writing.{Wrote}
 use Rattle.alm_codec.proofs.Writing.{Wrote-nothing, Wrote-then}
 use Rattle.alm_codec.proofs.FrameWriting.{text_more, limits_more}

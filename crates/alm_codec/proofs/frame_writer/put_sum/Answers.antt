@@ -1,8 +1,8 @@
-use Rattle.std.proofs.Common.{◌≡◌, ◌+◌, ◌++◌, sym, ap, ◌∙◌, subst, take, drop, List, ℕ, arith}
+use Rattle.std.proofs.Common.{◌≡◌, ◌++◌, sym, ap, ◌∙◌, subst, take, drop, List, ℕ, arith}
 use Rattle.std.proofs.lemmas.List.{take-take}
 use Rattle.std.specs.Int.{w32, to_be_bytes}
 use Rattle.alm_sum.specs.Crc.{checksum_of}
-use Rattle.alm_codec.specs.Frames.{head_len}
+use Rattle.alm_codec.specs.Frames.{frame_head_len}
 use Rattle.alm_codec.specs.Versions.{sum_text}
 use Rattle.alm_codec.specs.Writing.{Wrote}
 use Rattle.alm_codec.proofs.FrameWriting.{until}
@@ -16,4 +16,4 @@ returns-in-V03 c =
     let sum : c.sum_of-sum.result ≡ checksum_of (take 14 out ++ take c.args.actions (drop 18 out)) = c.sum_of-sum.ensures ∙ (λ i. checksum_of (head i ++ texts i)) in
     let wrote : Wrote out c.put.new.out 14 18 (to_be_bytes w32 (checksum_of (take 14 out ++ take c.args.actions (drop 18 out)))) =
     until _ _ 14 c.put.result 18 _ (omega arith) (subst (Wrote out c.put.new.out 14 c.put.result) (c.to_be_bytes.ensures ∙ ap (to_be_bytes w32) sum) c.put.ensures.text) in
-    subst (λ v. Wrote out c.put.new.out (head_len v) 18 (sum_text v (take (head_len v) out ++ take c.args.actions (drop 18 out)))) (sym c.in-V03.is) wrote
+    subst (λ v. Wrote out c.put.new.out (frame_head_len v) 18 (sum_text v (take (frame_head_len v) out ++ take c.args.actions (drop 18 out)))) (sym c.in-V03.is) wrote

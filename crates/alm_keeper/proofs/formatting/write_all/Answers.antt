@@ -1,6 +1,6 @@
 use Rattle.std.proofs.Common.{◌≡◌, inl, inr, false, List, ℕ, ap, ◌∙◌, subst, refl}
 use Rattle.alm_disk.specs.Settled.{IsSettled}
-use Rattle.alm_segment.specs.Course.{is_gate_open}
+use Rattle.alm_checkpoint.specs.Layouts.{is_header_open}
 use Rattle.alm_checkpoint.specs.Layouts.{layout_byte}
 use Rattle.alm_keeper.specs.Formatting.{with_empty_half, with_open_gate}
 use Rattle.alm_keeper.proofs.Formed.{ok_map, err_of, may_be}
@@ -43,7 +43,7 @@ returns-clause-leaves g c = λ honest sound.
     let all = with_empty_half l c.args.header.now c.args.half.now one.bytes in
     let settled = c.in_ok-write_behind.ensures.filled now (c.in_ok-close_header.ensures.settled honest).sound in
     let shut = c.in_ok-write_behind.ensures.shut now (c.in_ok-close_header.ensures.shut honest sound) in
-    let closed : is_gate_open (layout_byte all 0) ≡ false = subst (λ (b : List ℕ). is_gate_open (layout_byte b 0) ≡ false) settled.reads shut.closed in
+    let closed : is_header_open (layout_byte all 0) ≡ false = subst (λ (b : List ℕ). is_header_open (layout_byte b 0) ≡ false) settled.reads shut.closed in
     let long = g.met.D.Disk.whole c.close_header.new.disk now ∙ c.close_header.ensures.size in
     err_of c.open_header.result (inr (λ b image. may_be (g.D.Disk.size c.args.disk.now) l c.args.header.now c.args.half.now one.bytes b long (c.open_header.ensures.either all b next settled closed image)))
 

@@ -1,6 +1,8 @@
 use Rattle.std.proofs.Common.{true, ◌≡◌, ◌+◌, ◌^◌, ◌<◌, ◌++◌, ◌∷◌, [], ℕ, take, arith, refl, sym, ap, subst, ◌∙◌}
+use Rattle.alm_codec.specs.Versions.{closed_gate}
 use Rattle.alm_codec.specs.Image.{image_text}
 use Rattle.alm_checkpoint.specs.Headers.{half_head_text}
+use Rattle.alm_checkpoint.specs.Cut.{head_before}
 use Rattle.alm_checkpoint.specs.Layouts.{image_size}
 use Rattle.alm_keeper.specs.Stages.{phase_of}
 use Rattle.alm_store.specs.Advancing.{IsResting}
@@ -24,7 +26,7 @@ returns-clause-copies c =
       actions = refl;
       copying = refl;
       run = run;
-      text = ap (λ (n : ℕ). take n items) run ∙ c.write_half.ensures.text ∙ (λ i. half_head_text b.layout (c.newer.ensures i) (b.epoch + 1) (c.count.ensures i) ++ image_text b.stored ++ 0 ∷ []);
+      text = ap (λ (n : ℕ). take n items) run ∙ c.write_half.ensures.text ∙ (λ i. half_head_text b.layout (c.other-half.ensures i) (head_before (c.newer-version.ensures i) (b.epoch + 1) b.stored) ++ image_text b.stored ++ closed_gate (c.newer-version.ensures i) ∷ []);
       out = refl;
       written = refl;
     }
