@@ -12,6 +12,7 @@ from alarms import judging
 from alarms.judging import Reading, read_device, read_once
 from lib.places import DOCS
 from lib.program import PLANT, Desk, Fault, check, draw_lines, preload, run_words
+from lib.summed_device import SummedDevice
 from alarms.table_file import Alarm, Table, device_size
 from lib.tools import toml
 from check_bits import drawn_flips, each_bit
@@ -38,19 +39,29 @@ judging.PAUSE = 0.0
 
 
 def example(yard: Yard, _step: int) -> str:
-    """The rows of the page: a byte is changed, and then."""
+    """The rows of the page: a byte is changed, and then. In version 03 the same device has other rows."""
     device = yard.format("example.device", PLANT)
     yard.run("desk", device, lines="17 1 CLOCK 1000\n16 2 VAL 0 800\n")
-    before, done = content_of(device), 0
-    table = PAGE.read_text(encoding="utf-8").partition("With one byte of it changed:\n")[2].partition("\n## ")[0]
-    for place, to, then in re.findall(r"^\| ([0-9 and]+) \| ([0-9a-f, ]+) \| (.+) \|$", table, re.MULTILINE):
+    page = PAGE.read_text(encoding="utf-8")
+    earlier = page.partition("With one byte of it changed:\n")[2].partition("\n## ")[0]
+    done = judge_rows(yard, content_of(device), earlier)
+    check(done == 14, "the page's example has", done, "rows")
+    summed = SummedDevice(device)
+    summed.spell_03()
+    newer = judge_rows(yard, bytes(summed.bytes), page.partition("14510: 5a\n")[2])
+    check(newer == 10, "the page's example of version 03 has", newer, "rows")
+    return f"{done + newer} rows of the page"
+
+
+def judge_rows(yard: Yard, before: bytes, table: str) -> int:
+    """Holds each row of a table against what is read of a device with that change, and counts the rows."""
+    rows = re.findall(r"^\| ([0-9 and]+) \| ([0-9a-f, ]+) \| (.+) \|$", table, re.MULTILINE)
+    for place, to, then in rows:
         changed = bytearray(before)
         for at, value in zip(place.split(" and "), to.split(", ")):
             changed[int(at)] = int(value, 16)
         judge_row(read(written(yard, "row.device", bytes(changed))), then)
-        done += 1
-    check(done == 14, "the page's example has", done, "rows")
-    return f"{done} rows of the page"
+    return len(rows)
 
 
 def judge_row(reading: Optional[Reading], then: str) -> None:

@@ -13,6 +13,7 @@ from typing import Callable, Iterator, Optional, TypeVar
 from .actions import Action
 from .ending import Fault
 from .device_frames import frame_fault, head_of_frame, sum_fault
+from .device_heads import SUMMED_NAME, head_fault, image_sum_fault, is_open
 from .device_rules import (
     ACTION,
     ACTIONS,
@@ -24,7 +25,6 @@ from .device_rules import (
     HEADER,
     OF_HEADER,
     Broken,
-    head_fault,
     header_fault,
     image_fault,
     text_fault,
@@ -129,9 +129,13 @@ class DeviceFile:
         """What stands where a half whose gate is closed has its head."""
         return self.head_of_text(half, self.read(self.half_at(half), 17), False)
 
-    def head_of_text(self, half: int, text: bytes, is_open: bool) -> Optional[Head]:
-        """The head in the first bytes of a half, where its gate is so."""
-        if len(text) < 17 or (text[0] == GATE_OPEN) != is_open:
+    def is_open(self, gate: bytes) -> bool:
+        """Whether a gate of a half or of a frame is open."""
+        return is_open(gate, self.name)
+
+    def head_of_text(self, half: int, text: bytes, is_shown: bool) -> Optional[Head]:
+        """The head in the first bytes of a half, where its gate is open or not, as is asked."""
+        if len(text) < 17 or self.is_open(text[:1]) != is_shown:
             return None
         epoch, marked = struct.unpack(">QQ", text[1:])
         return Head(half, epoch, marked >> 56, marked & (2**56 - 1))
@@ -148,14 +152,22 @@ class DeviceFile:
         return max(heads, key=lambda head: head.epoch)
 
     def judge_head(self, head: Head) -> None:
-        """Raises `Damaged` where a head breaks its rules."""
-        start = self.half_at(head.half)
-        self.judge(head.half, start, head_fault(self.whole(start, HEAD), self.name, self.image))
+        """Raises `Damaged` where a head breaks its rules; in version 03 also where the other one does, if its gate is
+        open."""
+        self.judge_head_of(head.half)
+        if self.name == SUMMED_NAME and self.is_open(self.read(self.half_at(1 - head.half), 1)):
+            self.judge_head_of(1 - head.half)
+
+    def judge_head_of(self, half: int) -> None:
+        start = self.half_at(half)
+        self.judge(half, start, head_fault(self.whole(start, HEAD), self.header, half, self.image))
 
     def image_of(self, head: Head) -> bytes:
         """The image of a half, which keeps the rules of the page, as its head does."""
         self.judge_head(head)
-        image = self.whole(self.segment_at(head.half) - self.image, self.image)
+        start = self.half_at(head.half)
+        image = self.whole(start + HEAD, self.image)
+        self.judge(head.half, start, image_sum_fault(self.whole(start, HEAD), self.name, image))
         self.judge(
             head.half, self.segment_at(head.half) - self.image, image_fault(image, self.rows, self.areas, head.count)
         )
@@ -165,7 +177,7 @@ class DeviceFile:
         """The frame at a place of a half's segment whose first action has this number; none where the journal ends."""
         start, room = self.segment_at(head.half) + at, self.segment - at
         text = self.whole(start, min(FRAME_HEAD, room))
-        if text[:1] != bytes([GATE_OPEN]):
+        if not self.is_open(text[:1]):
             return None
         self.judge(head.half, start, frame_fault(text, room, head.epoch, first, head.mark))
         count = head_of_frame(text, head.mark).actions

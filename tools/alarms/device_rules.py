@@ -86,19 +86,6 @@ def header_fault(header: bytes, size: int) -> Optional[Broken]:
     )
 
 
-def head_fault(head: bytes, name: bytes, image: int) -> Optional[Broken]:
-    """What is wrong with the head of a half that stands, under a header of this name and with images of this length."""
-    marked, length = struct.unpack(">QQ", head[9:])
-    return first_broken(
-        iter(
-            [
-                (9, "mark and count", marked >> 56 in MARKS[name] and marked & (2**56 - 1) <= COUNTS),
-                (17, "length of the image", length == image),
-            ]
-        )
-    )
-
-
 def text_fault(text: bytes, mark: int) -> Optional[Broken]:
     """Whether 16 bytes are no text of an action in a half of this mark."""
     kind, zeros, alarm, argument = struct.unpack(">B3sIq", text)

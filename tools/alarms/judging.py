@@ -14,7 +14,7 @@ from typing import Callable, Optional, Union
 from .actions import Action
 from .device_file import Damaged, DeviceFile, Frame, Head
 from .device_frames import head_of_frame, shown
-from .device_rules import ACTION, COUNTS, FRAME_HEAD, GATE_OPEN
+from .device_rules import ACTION, COUNTS, FRAME_HEAD
 from .table_file import READING_LIMIT
 from .known import known
 from .model import ACKNOWLEDGED, BY_DESIGN, OUT_OF_SERVICE, SHELVED, AlarmState, PlantModel
@@ -219,7 +219,7 @@ def is_image_of(device: DeviceFile, standing: Head, closed: Head) -> bool:
 
 
 def is_open(device: DeviceFile, at: int) -> bool:
-    return device.read(at, 1) == bytes([GATE_OPEN])
+    return device.is_open(device.read(at, 1))
 
 
 def actions_at(device: DeviceFile, head: Head, at: int, first: int) -> int:

@@ -148,14 +148,14 @@ def left_out(device: DeviceFile, found: Salvaged) -> Iterator[Frame]:
         count = actions_at(device, found.head, at, number)
         end = at + FRAME_HEAD + ACTION * count
         yield Frame(list(readable(segment, at, number, count, found)), end)
-        is_next = segment[end : end + 1] == bytes([GATE_OPEN]) and actions_at(device, found.head, end, number + count)
+        is_next = device.is_open(segment[end : end + 1]) and actions_at(device, found.head, end, number + count)
         at = end if is_next else None
 
 
 def starts(device: DeviceFile, found: Salvaged, segment: bytes) -> Iterator[int]:
     """Where a frame of the same epoch and with a later action begins."""
     mark, count, at = bytes([GATE_OPEN]) + found.head.epoch.to_bytes(8, "big"), found.plant.count, found.end
-    is_ended = segment[at] != GATE_OPEN and not closed_gate(device, Judged(found.head, found.plant, at, None))
+    is_ended = not device.is_open(segment[at : at + 1]) and not closed_gate(device, Judged(found.head, found.plant, at, None))
     at = segment.find(mark, at + 1) if is_ended else at
     while at >= 0:
         number, most = (
