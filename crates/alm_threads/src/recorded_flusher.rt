@@ -95,7 +95,7 @@ impl<K: Store, T: Told + Drop, B: Board<Told = T>, J: RunId> RecordedFlusher<K, 
     ghost use Rattle.alm_flush.specs.Flushes.{AdvanceAnswers, AreAllReleased, FetchAnswers, GivesBack, PublishAnswers, ReleaseAnswers};
     ghost use Rattle.alm_flush.specs.HeldBatch.{next_entry_of, to_commit};
     ghost use Rattle.alm_flush.specs.Steps.{CallsDevice};
-    ghost use Rattle.alm_threads.specs.Causes.{StopsFor};
+    ghost use Rattle.alm_threads.specs.Causes.{StopsFor, most_refusals};
     ghost use Rattle.alm_rings.specs.declared.receipt.Receipt.{Receipt};
 
     /// No batch is held at first. The store has no work begun, and the board shows the plant that is stored.
@@ -138,6 +138,7 @@ impl<K: Store, T: Told + Drop, B: Board<Told = T>, J: RunId> RecordedFlusher<K, 
     pub fn cause(&self) -> Option<StopCause>
         ensures some { IfSome result (λ why. StopsFor why self.now.failed self.now.refused) }
         ensures none { result ≡ None → self.now.failed ≡ false }
+        ensures few { result ≡ None → self.now.refused < most_refusals }
         ensures failed { self.now.failed ≡ true → result ≡ Some StopCause.Store }
     {
         if self.failed {
