@@ -155,7 +155,9 @@ def left_out(device: DeviceFile, found: Salvaged) -> Iterator[Frame]:
 def starts(device: DeviceFile, found: Salvaged, segment: bytes) -> Iterator[int]:
     """Where a frame of the same epoch and with a later action begins."""
     mark, count, at = bytes([GATE_OPEN]) + found.head.epoch.to_bytes(8, "big"), found.plant.count, found.end
-    is_ended = not device.is_open(segment[at : at + 1]) and not closed_gate(device, Judged(found.head, found.plant, at, None))
+    is_ended = not device.is_open(segment[at : at + 1]) and not closed_gate(
+        device, Judged(found.head, found.plant, at, None)
+    )
     at = segment.find(mark, at + 1) if is_ended else at
     while at >= 0:
         number, most = (
