@@ -3,8 +3,9 @@
 
     tests/program/faults.py PROGRAM [--short]
 
-`format`, `show`, `export` and `desk` run over devices. First without a fault: they make the calls that calls.py lists.
-Then once for each call that they make and each way in which it may go wrong (preload.c lists them). After each:
+`format`, `show`, `export` and `desk` run over devices, `desk` over one of version 03 too. First without a fault: they
+make the calls that calls.py lists. Then once for each call that they make and each way in which it may go wrong
+(preload.c lists them). After each:
 
 - the failure was reported, by the fault line that is due and its status, and the device wasn't called any more; - no
 reply was given that the device didn't keep: it stands for what was answered, or for that with the one line in doubt; -
@@ -52,6 +53,7 @@ from lib.program import (
     stopped_reply,
 )
 from lib.disks import mount, unmount
+from lib.summed_device import SummedDevice
 
 ERRORS = ["eio", "enospc"]
 GARBLES = ["a5", "ff", "mixed"]
@@ -152,8 +154,18 @@ class Faults:
                     continue
                 raise Wrong(f"{words[0]} that ignores {fault.text} isn't refused")
 
-    def desk(self, seed, count):
-        course = Course(self.program, self.folder, seed, count)
+    def summed(self):
+        """A new device of version 03."""
+        path = os.path.join(self.folder, "summed")
+        run = run_words(self.program, ["format", path, PLANT])
+        check(run.returncode == 0, "format", run.stderr)
+        device = SummedDevice(path)
+        device.spell_03()
+        device.write(path)
+        return path
+
+    def desk(self, seed, count, start=None):
+        course = Course(self.program, self.folder, seed, count, start=start)
         lines = b"".join(course.lines)
         said, made = self.whole(["desk", course.device()], lines)
         check_list(split_opening(on_device(made), opening(), "desk"), commits(LAYOUT, said.count(b" OK ")), "desk")
@@ -361,8 +373,8 @@ def main():
         old = faults.old_device(1)
         faults.format(None)
         faults.format(old)
-        for seed, count in ((2, 150), (3, 420)):
-            faults.desk(seed, count)
+        for seed, count, start in ((2, 150, None), (3, 420, None), (5, 420, faults.summed())):
+            faults.desk(seed, count, start)
         faults.linked()
         faults.folders()
         full = faults.full_disk()
