@@ -226,7 +226,7 @@ def changes_shift(yard: Yard, ben: Page, anna: Page) -> None:
     anna.click("#position")
     anna.until("what ben said", lambda: ": TI-101 is calibrated" in anna.of("#shifts"))
     check(
-        f"1 alarms, 0 unacknowledged, 1 suppressed. {AREAS[0]}, {AREAS[1]}" in anna.of("#shifts"),
+        f"1 alarm, 0 unacknowledged, 1 suppressed. {AREAS[0]}, {AREAS[1]}" in anna.of("#shifts"),
         "it says",
         anna.of("#shifts"),
     )

@@ -18,8 +18,10 @@ function areasOf(/** @type {Position} */ {areas}) {
 function standing(/** @type {Position} */ {areas}) {
   const rows = plants.flatMap(plant => plant.rows).filter(row => row.shown !== "NORM" &&
     (!areas || areas.some(([number, area]) => number === row.plant.place && area === row.area)));
-  return t("{all} alarms, {unacknowledged} unacknowledged, {suppressed} suppressed", {all: rows.length,
-    unacknowledged: rows.filter(isUnacknowledged).length, suppressed: rows.filter(row => row.flags).length});
+  const how = rows.length === 1 ? w("1 alarm, {unacknowledged} unacknowledged, {suppressed} suppressed")
+    : w("{all} alarms, {unacknowledged} unacknowledged, {suppressed} suppressed");
+  return t(how, {all: rows.length, unacknowledged: rows.filter(isUnacknowledged).length,
+    suppressed: rows.filter(row => row.flags).length});
 }
 
 function who(/** @type {number} */ place) {
