@@ -318,8 +318,9 @@ class Operator:
         self.page.turn("alarms")
 
     def picture(self, name: str) -> None:
-        """What the page looks like on three screens."""
+        """What the page looks like on three screens, while the plant's clock goes on."""
         for width, height, is_touched in SCREENS if self.folder else ():
+            self.world.tick()
             screen(self.page, width, height, is_touched)
             self.page.driver.save_screenshot(os.path.join(self.folder or "", f"{name}-{width}.png"))
         if self.folder:
