@@ -1,4 +1,5 @@
-"""How soon an alarm is drawn behind the line that brings it to the feed. tests/tools/browser.py runs this check."""
+"""How soon an alarm is drawn behind the line that brings it to the feed, and how often a page hears of alarms in a
+storm. tests/tools/browser.py runs this check."""
 import itertools
 import statistics
 import subprocess
@@ -16,11 +17,18 @@ from lib.tools import Yard, await_true, slowness, started
 HALF, MOST = 100, 400
 # Lines that are timed, seconds between two of them, and lines a second beside them in the large plant.
 TIMED, APART, BESIDE = 100, 0.15, 50
+# Seconds of a storm of as many lines, and how often in a second it is heard of at least, however busy the machine is. A
+# list that looks once each second stays below 1 on any machine, as it sleeps between; one that looks ten times is far
+# above.
+STORM, LEAST = 10, 1.1
 # Notes when each tag is first drawn: behind the frame that has it.
 WATCH = """window.at = {}; const note = () => { const now = Date.now(); for (const cell of document.querySelectorAll(
 '#rows td.tag')) window.at[cell.textContent] ??= now; };
 new MutationObserver(() => requestAnimationFrame(() => setTimeout(note))).observe(document.getElementById('rows'),
 {childList: true, subtree: true}); note()"""
+# Notes when the page hears of rows.
+HEARS = """window.heard = []; const parse = JSON.parse; JSON.parse = text => { const told = parse(text);
+if (told?.rows?.length) window.heard.push(Date.now()); return told; }"""
 
 
 class Lines:
@@ -62,6 +70,19 @@ def times(page: Page, lines: Lines, tags: list[str], value: int, beside: Iterato
     return took
 
 
+def hears(page: Page, lines: Lines, tags: list[str], value: int) -> float:
+    """Alarms come evenly through a storm; how often in a second the page hears of some."""
+    page.js(HEARS)
+    began = time.monotonic()
+    for place, tag in enumerate(tags):
+        time.sleep(max(0.0, began + place * STORM / len(tags) - time.monotonic()))
+        lines.says(f"{tag},{value}")
+    await_true(f"a row of {tags[-1]}", lambda: page.js("return window.at[arguments[0]] ?? 0", tags[-1]), 20)
+    heard = page.js("return window.heard")
+    check(len(heard) > 1, "the page hears of a storm", len(heard), "times")
+    return (len(heard) - 1) / (heard[-1] - heard[0]) * 1000
+
+
 def judge(what: str, took: list[float]) -> str:
     """Within the bounds, by as much longer as the machine is busy."""
     half, most, busy = statistics.median(took), sorted(took)[int(len(took) * 0.99)], slowness()
@@ -99,11 +120,14 @@ def latency(yard: Yard, _count: int) -> str:
     others = [alarm.tag for number, alarm in enumerate(plant.table.alarms) if number % 16 == 4]
     beside = (f"{tag},{value}" for tag, value in zip(itertools.cycle(others), itertools.cycle((120, 120, 0))))
     said.append(judge("of 16,384", times(page, lines, tags, 120, beside, BESIDE)))
+    fresh = [alarm.tag for number, alarm in enumerate(plant.table.alarms) if number % 16 == 12]
+    often = hears(page, lines, fresh[: STORM * BESIDE], 120)
+    check(often >= LEAST, f"in a storm the page hears of alarms {often:.2f} times a second")
     for one in (page, lines, listed):
         one.end()
     plant.clock.close()
     plant.server.end()
-    return f"from a line to its row {'; '.join(said)}"
+    return f"from a line to its row {'; '.join(said)}; in a storm heard of {often:.1f} times a second"
 
 
 CHECKS = {"latency": latency}
