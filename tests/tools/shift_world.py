@@ -28,6 +28,8 @@ OWN, PATIENCE = 3, 30
 RESTLESS, GOES = 0.12, 0.6
 # Seconds in which a flood comes, and behind which its alarms begin to go.
 FLOOD, STANDS = 15, 70
+# The alarm that the changed table has, and the first one hasn't.
+NEW = Alarm("high", 500, 2, 0, "TI-199", 5, 3600, False, "Temperature behind the new heater, 0.1 degC")
 # Seconds between two changes of an alarm that chatters.
 CHATTERS = 5
 
@@ -88,8 +90,10 @@ class World:
         self.begin()
 
     def begin(self) -> None:
-        """The feed, the clock, and what is drawn."""
-        rows = "".join(f"{one.tag},{one.tag},\n{one.tag}/design,{one.tag},design\n" for one in self.table.alarms)
+        """The feed, the clock, and what is drawn. The feed's map has the new table's rows too, as an alarm may come as
+        soon as the plant has it."""
+        tags = [one.tag for one in (*self.table.alarms, NEW)]
+        rows = "".join(f"{tag},{tag},\n{tag}/design,{tag},design\n" for tag in tags)
         words = ("--map", self.yard.write("map.csv", f"name,tag,as\n{rows}"), "--details", DETAILS)
         self.log = open(self.yard.path("feed.log"), "w", encoding="utf-8")
         self.feed = started(
@@ -152,13 +156,13 @@ class World:
             one = self.due.pop(0)
             if one.what == "flood":
                 self.flood(second)
+            elif one.tag not in self.numbers:
+                continue  # the changed table hasn't it any more
             elif one.what == "chatter":
                 self.restless[one.tag] = second
-            elif one.tag in self.numbers and one.what == "goes":
-                self.turn(one.tag, False)
-            elif one.tag in self.numbers and one.what == "comes":
-                self.turn(one.tag, True)
-            elif one.tag in self.numbers:
+            elif one.what in ("comes", "goes"):
+                self.turn(one.tag, one.what == "comes")
+            else:
                 self.says(one.tag, design=one.what == "design on")
         for tag, first in self.restless.items():
             if (second - first) % CHATTERS == 0:
@@ -267,13 +271,12 @@ class World:
     def change_table(self) -> tuple[str, str]:
         """Another table by docs/OPERATING.md: an alarm less, one more, another text. The tags that went and came."""
         gone = next(one.tag for one in self.count.alarms if one.word() == "NORM" and one.tag not in self.values)
-        new = Alarm("high", 500, 2, 0, "TI-199", 5, 3600, False, "Temperature behind the new heater, 0.1 degC")
         self.kill()
         program, path = self.yard.program, self.yard.path
         exported = load_table(self.yard.write("old.toml", self.yard.run("export", self.device)))
         kept = [one for one in exported.alarms if one.tag != gone]
         kept[3] = replace(kept[3], text="Another text")
-        self.table = Table((exported.size or 0) + 364, exported.areas, [*kept, new])
+        self.table = Table((exported.size or 0) + 364, exported.areas, [*kept, NEW])
         other = self.yard.format("new.device", self.yard.write("new.toml", toml(self.table)))
         words = module("change_table", self.device, path("new.toml"), "--program", program)
         run = subprocess.run(words, env=AT_TOOLS, capture_output=True, text=True, timeout=60)
@@ -283,7 +286,7 @@ class World:
         os.replace(other, self.device)
         self.carry(gone, replies.count("\n"))
         self.back()
-        return gone, new.tag
+        return gone, NEW.tag
 
     def carry(self, gone: str, actions: int) -> None:
         """The count of the new table: what both have keeps its state. Annunciations are of before the windows, in their
