@@ -15,7 +15,7 @@ from lib.browsers import AREAS, Page
 from lib.program import Wrong, check
 from lib.tools import await_true
 from selenium.common.exceptions import ElementClickInterceptedException, ElementNotInteractableException
-from selenium.webdriver import Keys
+from selenium.webdriver import ActionChains, Keys
 from shift_world import World
 
 WORDS = {
@@ -113,9 +113,10 @@ class Operator:
 
     def aim(self) -> None:
         """One row, while the plant goes on."""
+        self.reach()
         tags = self.page.js(SHOWN, ".unacknowledged")
         if not tags:
-            return
+            return self.page.leave()
         tag = self.dice.choice(tags)
         self.world.busy = {tag}
         self.choose(tag)
@@ -126,6 +127,11 @@ class Operator:
         self.world.busy = set()
         self.page.press(Keys.ESCAPE)
 
+    def reach(self) -> None:
+        """The pointer is over the list, which holds still from then on: what is seen now is there for a click, however
+        late that comes."""
+        ActionChains(self.page.driver).move_to_element(self.page.find("#list")).perform()
+
     def choose(self, *tags: str) -> None:
         """Selects rows by clicks; they have stood at their places for a second by then."""
         self.page.press(Keys.ESCAPE)
@@ -133,9 +139,12 @@ class Operator:
 
     def reset(self) -> None:
         """What is latched and was acknowledged."""
+        if not self.world.latched():
+            return
+        self.reach()
         tags = [tag for tag in self.page.js(SHOWN, "") if tag in self.world.latched()][:5]
         if not tags:
-            return
+            return self.page.leave()
         self.choose(*tags)
         said = self.answered(lambda: self.page.act("RESET"))
         check(said == f"{tags[0] if len(tags) == 1 else len(tags)} reset", "of", tags, "it says", said)
