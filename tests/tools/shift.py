@@ -201,6 +201,14 @@ class Shift:
             rows = list(kept.execute("SELECT position, word, user, remark FROM shift ORDER BY id"))
             check(rows == self.hand.shifts, "of positions there is noted", rows)
 
+    def stands(self) -> str:
+        """Which of its processes have ended, and what the list said."""
+        world = self.world
+        there = {"the server": world.server.process, "the feed": world.feed, "nginx": self.proxy}
+        there["the list"] = self.listed.process
+        ended = [f"{name} has ended with {one.returncode}" for name, one in there.items() if one.poll() is not None]
+        return f"{', '.join(ended) or 'each of its processes runs'}; the list said {self.listed.said()!r}"
+
     def end(self) -> str:
         """Ends all of it; what there was."""
         from lib.program import check
@@ -253,6 +261,7 @@ def main() -> None:
     began = time.monotonic()
     for number in (signal.SIGTERM, signal.SIGINT):  # whatever was started is ended
         signal.signal(number, lambda number, _frame: sys.exit(128 + number))
+    shift = None
     try:
         shift = Shift(Yard(program, folder), chosen)
         shift.work()
@@ -260,7 +269,8 @@ def main() -> None:
     except (Wrong, Lost, Refused, WebDriverException, subprocess.TimeoutExpired) as wrong:
         if "ALM_BROWSER_LOUD" in os.environ:
             traceback.print_exc()
-        sys.exit(f"shift: {str(wrong).strip()}; devices are in {folder}")
+        stands = f"{shift.stands()}; " if shift else ""
+        sys.exit(f"shift: {str(wrong).strip()}; {stands}devices are in {folder}")
     finally:
         end_pages()
         end_all()
