@@ -106,7 +106,7 @@ twice_other : (h : Half) → other (other h) ≡ h
 twice_other First = refl
 twice_other Second = refl
 
--- a head that is whole may be beside another, whatever its gate
+-- a head that is whole may be next to another, whatever its gate
 pub beside_whole : (l : Layout) (h : Half) (bytes : List ℕ) (t : HalfHead) → half_head_from l h bytes ≡ Ok t → beside_from l h bytes ≡ Ok tt
 beside_whole l h bytes t e = by_need (is_summed l.version && gate_in l.version bytes)
   where
@@ -114,7 +114,7 @@ beside_whole l h bytes t e = by_need (is_summed l.version && gate_in l.version b
     by_need true = ap checked e
     by_need false = refl
 
--- beside a closed gate nothing has to be whole
+-- next to a closed gate nothing has to be whole
 pub shut_beside : (l : Layout) (h : Half) (half : List ℕ) → gate_in l.version half ≡ false → beside_from l h (take 25 half) ≡ Ok tt
 shut_beside l h half shut =
     ap (λ (b : Bool). cond (is_summed l.version && b) (checked (half_head_from l h (take 25 half))) (Ok tt)) (gate_short l.version half ∙ shut) ∙ by_version (is_summed l.version)

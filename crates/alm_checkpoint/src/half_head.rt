@@ -164,10 +164,10 @@ impl Layout {
 
     /// What the head of a half says, by its 25 bytes.
     ///
-    /// Damage is at mark and count, which are one field, or else at the last fields: an image length that isn't this
-    /// layout's, or in version 03 a checksum of the head that isn't its own. Mark and count are damaged if the count is above
-    /// 2^48, or the mark isn't that of a version that may be under the header. Under one of version 01 a half may be of
-    /// version 02 too, else only of the header's version. Any epoch is valid, and any checksum of the image.
+    /// Damage is at mark and count, which are one field, or else at the last fields. Mark and count are damaged if the count
+    /// is above 2^48, or the mark isn't that of a version that may be under the header. Under one of version 01 a half may be
+    /// of version 02 too, else only of the header's version. The last fields are damaged if the image length isn't this
+    /// layout's, or in version 03 if the checksum of the head isn't its own. Any epoch is valid, and any checksum of the image.
     #[tactic(auto, unfolding(crate::specs::Opening::half_head_from))]
     pub fn read_half_head(&self, half: Half, bytes: &[u8]) -> Result<HalfHead, DeviceFault>
         requires { length bytes.now ≡ 25 }

@@ -31,8 +31,8 @@ impl Layout {
 
     /// The half that stands and what its head says, by the 25 bytes of each head.
     ///
-    /// Damage is where no half stands or the epochs are equal, else in the head of the half that stands, else, in version 03, in
-    /// that of the other half, if its gate is open.
+    /// Damage is where no half stands or the epochs are equal, else in the head of the half that stands. In version 03 it is
+    /// else in that of the other half, if its gate is open.
     #[tactic(auto, unfolding(crate::specs::Opening::heads_from))]
     pub fn read_heads(&self, first: &[u8], second: &[u8]) -> Result<(Half, HalfHead), DeviceFault>
         requires first { length first.now ≡ 25 }

@@ -38,8 +38,8 @@ fn part(bytes: &[u8], at: u64, n: usize) -> &[u8]
 }
 
 /// What the bytes of a whole device encode, or their first fault. Faults are checked in this order: the header, the choice
-/// between the halves, then the head of the half that stands, in version 03 that of the other half if its gate is open, then image
-/// and frames of the half that stands.
+/// between the halves, the heads, then image and frames of the half that stands. The heads are that of the half that stands,
+/// and in version 03 then that of the other half, if its gate is open.
 pub fn recover<P: Alarms + Drop>(alloc: Global, device: &[u8]) -> Result<Recovered<P>, RestoreFault>
     ensures stands { IfOk result
         (λ r. StandsIn device.now r.layout r.half r.version r.epoch (P.plant r.plant) r.gate) }

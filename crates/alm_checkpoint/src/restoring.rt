@@ -33,9 +33,9 @@ fn damaged(half: Half, at: u64) -> RestoreFault
 impl Layout {
     /// The plant that a half holds, by its head, its image and its segment, and the place of its first closed gate on the device.
     ///
-    /// Damage is at the checksum of the image in the head, if it isn't that of the image, else at the first damaged field of the
-    /// image, else at the first of the frames, or an action that isn't admitted at
-    /// its turn. Out of memory says nothing about the bytes.
+    /// Damage is at the checksum of the image in the head, if it isn't that of the image, else at the first damaged field of
+    /// the image. Else it is at the first damaged field of the frames, or at an action that isn't admitted at its turn. Out of
+    /// memory says nothing about the bytes.
     pub fn restore<P: Alarms + Drop>(
         &self,
         alloc: Global,

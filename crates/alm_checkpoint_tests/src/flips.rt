@@ -5,7 +5,7 @@ use alm_codec::Version;
 use std::alloc::Global;
 use std::test::Fail;
 
-/// Where the image of the first half lies, and where the second half's gate is. Of the image, and of what lies behind that gate,
+/// Where the image of the first half lies, and where the second half's gate is. Of the image, and of what lies after that gate,
 /// one bit of each byte is flipped; of all else each bit.
 const IMAGE: usize = 48;
 
@@ -13,8 +13,8 @@ const SEGMENT: usize = 10_394;
 
 const SECOND: usize = 14_510;
 
-/// How many bits are reported: those of the header, of the first half's head without its gate, of both frames without their
-/// gates, of the gate after them and of the second half's gate; and one of each byte of the image.
+/// How many bits are reported. Of the header, of the first half's head and of both frames these are all but those of a gate.
+/// There are those of the gate after the frames and of the second half's gate, and one of each byte of the image.
 const REPORTED: u32 = 8 * (23 + 24 + 2 * 34 + 1 + 1) + 10_346;
 
 /// What the flips of a device come to.

@@ -52,8 +52,8 @@
 //! A device call that hangs can't be ended. With a [`Patience`] the calls of a [`CountedDisk`] are counted, and the ports serve
 //! nobody while one takes too long. Requests that were sent before stay: they are done if the call comes back well.
 //!
-//! Checked by reading: that `read` and `write` of a `StreamWire` make the call which they note, that `read` asks its first bytes
-//! about what came, and that accepting and closing a connection makes no such call.
+//! Checked by reading: that `read` and `write` of a `StreamWire` make the call which they note. Also that `read` asks its first
+//! bytes about what came, and that accepting and closing a connection makes no such call.
 //!
 //! Not covered: that a wake comes, that the server ever ends, and time. Nor that a port closes while a device call takes too
 //! long, and that a look is answered Stopped only once the run has stopped. There are no accounts: a client that reaches a port of
