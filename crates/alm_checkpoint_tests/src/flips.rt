@@ -41,7 +41,7 @@ fn is_whole(at: usize) -> bool {
     at < IMAGE || (at >= SEGMENT && at <= SECOND)
 }
 
-fn flips(alloc: Global, version: Version) -> Result<Flips, Fail> {
+fn flip_all(alloc: Global, version: Version) -> Result<Flips, Fail> {
     let mut bytes = device_of(alloc, version, 2, 800)?;
     let stands = open(alloc, &bytes);
     let mut flips = Flips {
@@ -67,12 +67,12 @@ fn no_flip_is_silent_in_version_03(rt: HostRuntime) -> Result<(), Fail> {
         reported: REPORTED,
         silent: 0,
     };
-    assert_eq!(rt; flips(rt.alloc(), Version::V03)?, reported);
+    assert_eq!(rt; flip_all(rt.alloc(), Version::V03)?, reported);
     Ok(())
 }
 
 #[test]
 fn flips_are_silent_in_version_02(rt: HostRuntime) -> Result<(), Fail> {
-    assert!(rt; flips(rt.alloc(), Version::V02)?.silent > 0);
+    assert!(rt; flip_all(rt.alloc(), Version::V02)?.silent > 0);
     Ok(())
 }
