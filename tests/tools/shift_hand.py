@@ -158,6 +158,7 @@ class Operator:
 
         def does() -> None:
             self.page.act(act)
+            self.page.until("the dialog", lambda: self.page.find("#reason").is_displayed())
             self.page.answer(reason, **fields)
 
         said = self.answered(does)
