@@ -50,9 +50,10 @@ PAGES: list["Page"] = []
 SHOTS: list[str] = []
 CLICKS: list[int] = []
 # The rows as they are drawn: the alarm's number, the text of each cell by its first class, and the row's classes.
-ROWS = """return [...document.querySelectorAll('#rows tr')].map(row => ({n: row.dataset.n, kinds: row.className, top: row.getBoundingClientRect().top,
-bottom: row.getBoundingClientRect().bottom, selected: row.getAttribute('aria-selected'),
-cells: Object.fromEntries([...row.children].map(cell => [cell.className.split(' ')[0], cell.querySelector('svg') ? cell.querySelector('text').textContent : cell.textContent]))}))"""
+ROWS = """return [...document.querySelectorAll('#rows tr')].map(row => ({n: row.dataset.n, kinds: row.className,
+top: row.getBoundingClientRect().top, bottom: row.getBoundingClientRect().bottom,
+selected: row.getAttribute('aria-selected'), cells: Object.fromEntries([...row.children].map(
+cell => [cell.className.split(' ')[0], (cell.querySelector('svg text') ?? cell).textContent]))}))"""
 
 
 class List:

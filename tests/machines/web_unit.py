@@ -34,10 +34,13 @@ def connect(place, family=socket.AF_UNIX):
             one.connect(place)
     return does
 found = {f'slot {slot}': tried(connect(f'/run/alarms/plant/{slot}')) for slot in range(18)}
-found |= {f'read {path}': tried(lambda: open(path, 'rb').close()) for path in ('/var/lib/alarms/plant.device', '/var/lib/alarms-browser/plant.sqlite')}
-found |= {f'list {path}': tried(lambda: os.listdir(path)) for path in ('/run/alarms/plant', '/var/lib/alarms', '/run/alarms-feed/plant')}
-found |= {f'write {path}': tried(lambda: open(path, 'ab').close()) for path in ('/var/lib/alarms/plant.device', '/var/lib/alarms-browser/plant.sqlite', '/etc/alarms/plant.env')}
-found |= {'signal the server': tried(lambda: os.kill(server, signal.SIGSTOP)), 'signal alm_list': tried(lambda: os.kill(listed, signal.SIGSTOP))}
+private = ('/var/lib/alarms/plant.device', '/var/lib/alarms-browser/plant.sqlite')
+folders = ('/run/alarms/plant', '/var/lib/alarms', '/run/alarms-feed/plant')
+found |= {f'read {path}': tried(lambda: open(path, 'rb').close()) for path in private}
+found |= {f'list {path}': tried(lambda: os.listdir(path)) for path in folders}
+found |= {f'write {path}': tried(lambda: open(path, 'ab').close()) for path in (*private, '/etc/alarms/plant.env')}
+found['signal the server'] = tried(lambda: os.kill(server, signal.SIGSTOP))
+found['signal alm_list'] = tried(lambda: os.kill(listed, signal.SIGSTOP))
 found['metrics by a port'] = tried(connect(('127.0.0.1', 9464), socket.AF_INET))
 found['the list'] = tried(connect('/run/alarms-list/plant/socket'))
 print(json.dumps({'uid': os.getuid(), **found}), flush=True)
