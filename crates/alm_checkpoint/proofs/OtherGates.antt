@@ -1,12 +1,12 @@
 -- Other open gates change nothing.
 use Rattle.std.proofs.Common.{◌≡◌, ℕ, ◌+◌, true, List, [], ◌∷◌, ◌++◌, length, refl, sym, ◌∙◌, ap, subst}
-use Rattle.alm_types.specs.declared.action.Action.{Action}
+use Rattle.alm_codec.specs.declared.asked.Asked.{Asked}
 use Rattle.alm_model.specs.Plant.{Condensed}
 use Rattle.alm_model.specs.Step.{run}
 use Rattle.alm_model.specs.Rules.{AreAdmitted}
 use Rattle.alm_codec.specs.declared.version.Version.{Version}
 use Rattle.alm_codec.specs.Versions.{AreBorne, is_open}
-use Rattle.alm_codec.specs.Frames.{IsFrame}
+use Rattle.alm_codec.specs.Frames.{IsFrame, asked_actions}
 use Rattle.alm_segment.specs.Texts.{Frame, AreFrames, actions_in}
 use Rattle.alm_checkpoint.specs.Cut.{Cut, Stores, OtherGates, with_gates}
 
@@ -14,7 +14,7 @@ same_actions : (version : Version) (frames others : List Frame) → OtherGates v
 same_actions version [] [] h = refl
 same_actions version [] (g ∷ others) h = absurd h
 same_actions version (f ∷ frames) [] h = absurd h
-same_actions version (f ∷ frames) (g ∷ others) h = (λ i. h.0 i ++ same_actions version frames others h.2 i)
+same_actions version (f ∷ frames) (g ∷ others) h = (λ i. asked_actions (h.0 i) ++ same_actions version frames others h.2 i)
 
 are_frames : (version : Version) (epoch count : ℕ) (frames others : List Frame) → AreFrames version epoch count frames → OtherGates version frames others → AreFrames version epoch count others
 are_frames version epoch count [] [] are h = tt
@@ -22,8 +22,8 @@ are_frames version epoch count [] (g ∷ others) are h = absurd h
 are_frames version epoch count (f ∷ frames) [] are h = absurd h
 are_frames version epoch count (f ∷ frames) (g ∷ others) are h = (
   h.1,
-  subst (IsFrame epoch (count + 1)) (sym h.0) are.1,
-  subst (λ (list : List Action). AreFrames version epoch (count + length list) others) (sym h.0) (are_frames version epoch (count + length f.actions) frames others are.2 h.2),
+  subst (IsFrame version epoch (count + 1)) (sym h.0) are.1,
+  subst (λ (list : List Asked). AreFrames version epoch (count + length list) others) (sym h.0) (are_frames version epoch (count + length f.asked) frames others are.2 h.2),
 )
 
 pub stores_gates : (c : Cut) (plant : Condensed) (gate : ℕ) (frames : List Frame) → Stores c plant → is_open c.version gate ≡ true → OtherGates c.version c.frames frames → Stores (with_gates c gate frames) plant

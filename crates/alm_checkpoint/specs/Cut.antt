@@ -95,7 +95,7 @@ pub record Stores (c : Cut) (plant : Condensed) : Type 0 where
 -- the same frames, with any open gates
 abbrev pub OtherGates : Version → (frames others : List Frame) → Type 0
 OtherGates version [] [] = Unit {0}
-OtherGates version (f ∷ frames) (g ∷ others) = (g.actions ≡ f.actions) × (is_open version g.gate ≡ true) × OtherGates version frames others
+OtherGates version (f ∷ frames) (g ∷ others) = (g.asked ≡ f.asked) × (is_open version g.gate ≡ true) × OtherGates version frames others
 OtherGates version _ _ = ⊥
 
 -- another gate of the half that stands, and these frames

@@ -4,7 +4,7 @@ ghost use Rattle.std.specs.Prelude.{◌≡◌, ◌≢◌, ◌+◌, ◌<◌, ◌�
 ghost use Rattle.alm_model.specs.Plant.{Condensed};
 ghost use Rattle.alm_model.specs.Step.{run};
 ghost use Rattle.alm_model.specs.Rules.{AreAdmitted};
-ghost use Rattle.alm_codec.specs.Frames.{IsFrame, frame_text};
+ghost use Rattle.alm_codec.specs.Frames.{IsFrame, asked_actions, frame_text};
 ghost use Rattle.alm_codec.specs.declared.version.Version.TheVariants.{V03};
 ghost use Rattle.alm_codec.specs.Reading.{IsBytes};
 ghost use Rattle.alm_codec.specs.Versions.{AreBorne, is_open, newer};
@@ -55,10 +55,10 @@ pub fn what_stands_is_cut()
 /// frame. They store the plant after its actions.
 pub fn a_frame_more()
     ensures { (c : Cut) (plant : Condensed) (f : Frame) (tail : List ℕ) → Stores c plant →
-        is_open c.version f.gate ≡ true → IsFrame c.epoch (plant.panel.count + 1) f.actions →
-        AreBorne c.version f.actions → AreAdmitted plant f.actions →
-        Stores (with_frame c f) (run plant f.actions) × (device_of c
-        (f.gate ∷ frame_text c.version c.epoch (plant.panel.count + 1) f.actions ++ tail) ≡
+        is_open c.version f.gate ≡ true → IsFrame c.version c.epoch (plant.panel.count + 1) f.asked →
+        AreBorne c.version (asked_actions f.asked) → AreAdmitted plant (asked_actions f.asked) →
+        Stores (with_frame c f) (run plant (asked_actions f.asked)) × (device_of c
+        (f.gate ∷ frame_text c.version c.epoch (plant.panel.count + 1) f.asked ++ tail) ≡
         device_of (with_frame c f) tail) }
 {}
 

@@ -1,7 +1,7 @@
 //! The worked device.
 
 use alm_checkpoint::{DeviceFault, Half, HalfHead, Layout, RestoreFault, image_sum, recover};
-use alm_codec::{OPEN_GATE, Version, image_len, write_frame_body, write_image};
+use alm_codec::{Asked, Asker, OPEN_GATE, Version, image_len, write_frame_body, write_image};
 use alm_model::{Alarms, PlainPlant};
 use alm_types::{Action, AlarmId, Attr, Kind, Moment, Reading, Settings, Table};
 use std::alloc::Global;
@@ -96,7 +96,8 @@ pub fn value(alarm: u32, value: i64) -> Result<Action, Fail> {
 /// Puts a frame of one action of epoch 1 after the others, and opens its gate.
 fn commit(device: &mut Vec<u8>, version: Version, first: u64, action: Action) -> Result<(), Fail> {
     let mut body = [0; 35];
-    write_frame_body(1, first, &[action], &mut body, version);
+    let asker = Asker::nobody();
+    write_frame_body(1, first, &[Asked { asker, action }], &mut body, version);
     device.push(OPEN_GATE)?;
     device.extend_from_slice(&body[..34])?;
     Ok(())

@@ -1,5 +1,5 @@
 -- What is read as an action is its text, and the text of an action is read as it.
-use Rattle.std.proofs.Common.{◌≡◌, ℕ, zero, ◌^◌, ◌<◌, Bool, true, false, ◌&&◌, cond, eqb, ltb, List, [], ◌∷◌, ◌++◌, length, take, Option, Some, None, inl, inr, refl, sym, ap, subst, ◌∙◌, arith, ℤ, pos, negsuc, of_z, to_z, FitsSigned}
+use Rattle.std.proofs.Common.{◌≡◌, ℕ, zero, suc, ◌^◌, ◌<◌, Bool, true, false, ◌&&◌, cond, eqb, ltb, List, [], ◌∷◌, ◌++◌, length, take, drop, get_or, Option, Some, None, inl, inr, refl, sym, ap, subst, ◌∙◌, arith, ℤ, pos, negsuc, of_z, to_z, FitsSigned}
 use Rattle.std.specs.Prelude.{option_map, IfOk}
 use Rattle.std.specs.Option.{ok_or}
 use Rattle.alm_codec.specs.declared.damage.Damage.{Damage}
@@ -13,15 +13,17 @@ use Rattle.alm_types.specs.declared.action.Action.TheVariants.{Clock, Value, Ack
 use Rattle.alm_types.specs.declared.alarm_id.AlarmId.{AlarmId}
 use Rattle.alm_types.specs.Actions.{alarm_of, HasArgument, IsAction}
 use Rattle.alm_types.specs.Readings.{IsReading}
-use Rattle.alm_codec.specs.Actions.{kind_of, argument_of, switch_number, fields_text, action_text, if_reading, reading_at, without_argument, either_way, action_meant, action_at, action_in}
+use Rattle.alm_codec.specs.Actions.{kind_of, argument_of, switch_number, fields_text, text_by, action_text, asked_text, if_reading, reading_at, without_argument, either_way, action_meant, action_at, action_in, asked_by, asked_at}
+use Rattle.alm_codec.specs.declared.asked.Asked.{Asked}
+use Rattle.alm_codec.specs.declared.version.Version.TheVariants.{V01, V02, V03}
 use Rattle.alm_codec.specs.declared.version.Version.{Version}
-use Rattle.alm_codec.specs.Versions.{bears, IsBorne, borne}
+use Rattle.alm_codec.specs.Versions.{bears, IsBorne, IsSaid, borne, is_asker}
 use Rattle.alm_codec.specs.Reading.{IsBytes}
 use Rattle.alm_codec.proofs.Bytes.{IsBytes-drop, IsBytes-take, chosen}
 
 -- ---- what is encoded so is read
 
-pub text_again : (kind alarm argument : ℕ) → alarm < 2 ^ 32 → argument < 2 ^ 64 → action_at (fields_text kind alarm argument) ≡ action_meant kind alarm argument
+pub text_again : (kind alarm argument : ℕ) → alarm < 2 ^ 32 → argument < 2 ^ 64 → action_at (fields_text kind 0 alarm argument) ≡ action_meant kind alarm argument
 text_again kind alarm argument small fits =
     ap (λ (n : ℕ). action_meant kind n (from_be_bytes w64 (to_be_bytes w64 argument))) (from_be_bytes-to_be_bytes_4 alarm small)
     ∙ ap (λ (n : ℕ). action_meant kind alarm n) (from_be_bytes-to_be_bytes_8 argument fits)
@@ -190,7 +192,7 @@ text_takes kind p q r s rest a fits e =
           let large : argument < 2 ^ 64 = omega (arith, back 0, back 1, back 2, back 3, back 4, back 5, back 6, back 7) in
           let m = meaning_takes kind alarm argument a small large meant in
           let words : to_be_bytes w32 alarm ++ to_be_bytes w64 argument ≡ p ∷ q ∷ r ∷ s ∷ rest = both_words (to_be_bytes w32 alarm) (p ∷ q ∷ r ∷ s ∷ []) (to_be_bytes w64 argument) rest (be_bytes_4 (p ∷ q ∷ r ∷ s ∷ []) alarm refl front refl) (be_bytes_8 rest argument len back refl) in
-          let same : fields_text kind alarm argument ≡ action_text a = rw (m.kind_is, m.alarm_is, m.argument_is) refl in
+          let same : fields_text kind 0 alarm argument ≡ action_text a = rw (m.kind_is, m.alarm_is, m.argument_is) refl in
           (m.limits, sym (ap (λ (w : List ℕ). kind ∷ 0 ∷ 0 ∷ 0 ∷ w) words) ∙ same)
       | inr (t, none) ↦ absurd (none-some a none)
     ]
@@ -224,8 +226,58 @@ found_if_ok version bytes None d fits e = tt
 found_if_ok version bytes (Some a) d fits e = borne_action_takes version bytes a fits (sym e)
 
 -- the parts of a text, written one after the other
-pub text_parts : (kind : ℕ) (p q : List ℕ) (k n m alarm argument : ℕ) → kind ≡ k → p ≡ to_be_bytes w32 n → n ≡ alarm → q ≡ to_be_bytes w64 m → m ≡ argument → kind ∷ 0 ∷ 0 ∷ 0 ∷ (p ++ q) ≡ fields_text k alarm argument
-text_parts kind p q k n m alarm argument a b c d e =
-    ap (λ (x : ℕ). x ∷ 0 ∷ 0 ∷ 0 ∷ (p ++ q)) a
-    ∙ ap (λ (x : List ℕ). k ∷ 0 ∷ 0 ∷ 0 ∷ (x ++ q)) (b ∙ ap (to_be_bytes w32) c)
-    ∙ ap (λ (x : List ℕ). k ∷ 0 ∷ 0 ∷ 0 ∷ (to_be_bytes w32 alarm ++ x)) (d ∙ ap (to_be_bytes w64) e)
+pub text_parts : (kind asker : ℕ) (p q : List ℕ) (k n m alarm argument : ℕ) → kind ≡ k → p ≡ to_be_bytes w32 n → n ≡ alarm → q ≡ to_be_bytes w64 m → m ≡ argument → kind ∷ asker ∷ 0 ∷ 0 ∷ (p ++ q) ≡ fields_text k asker alarm argument
+text_parts kind asker p q k n m alarm argument a b c d e =
+    ap (λ (x : ℕ). x ∷ asker ∷ 0 ∷ 0 ∷ (p ++ q)) a
+    ∙ ap (λ (x : List ℕ). k ∷ asker ∷ 0 ∷ 0 ∷ (x ++ q)) (b ∙ ap (to_be_bytes w32) c)
+    ∙ ap (λ (x : List ℕ). k ∷ asker ∷ 0 ∷ 0 ∷ (to_be_bytes w32 alarm ++ x)) (d ∙ ap (to_be_bytes w64) e)
+
+-- ---- with who asked
+
+-- an action and who asked, as one value
+abbrev pair : ℕ → Action → Asked
+pair asker a = record { asker = asker; action = a }
+
+asked_parts : (asker : ℕ) (o : Option Action) (x : Asked) → asked_by asker o ≡ Some x → (a : Action) × (o ≡ Some a) × (pair asker a ≡ x)
+asked_parts asker None x e = absurd (none-some x e)
+asked_parts asker (Some a) x e = (a, refl, same_Some (pair asker a) x e)
+
+other_byte : (kind asker n : ℕ) (rest : List ℕ) → n < 256 → IsBytes (kind ∷ asker ∷ rest) → IsBytes (kind ∷ n ∷ rest)
+other_byte kind asker n rest lt fits zero = fits 0
+other_byte kind asker n rest lt fits (suc zero) = lt
+other_byte kind asker n rest lt fits (suc (suc i)) = fits (suc (suc i))
+
+-- the text of an action, as it is with another byte of who asked
+text_with : (kind asker : ℕ) (rest : List ℕ) (a : Action) → kind ∷ 0 ∷ rest ≡ action_text a → kind ∷ asker ∷ rest ≡ text_by asker a
+text_with kind asker rest a e = ap (λ (l : List ℕ). get_or l 0 0 ∷ asker ∷ drop 2 l) e
+
+said_text : (version : Version) (x : Asked) → IsSaid version x → text_by x.asker x.action ≡ asked_text version x
+said_text V01 x said = ap (λ (n : ℕ). text_by n x.action) (eqb-true x.asker 0 said)
+said_text V02 x said = ap (λ (n : ℕ). text_by n x.action) (eqb-true x.asker 0 said)
+said_text V03 x said = refl
+
+-- what is read in a version with who asked is encoded so
+pub asked_takes : (version : Version) (bytes : List ℕ) (x : Asked) → IsBytes bytes → asked_at version bytes ≡ Some x → IsAction x.action × (bytes ≡ asked_text version x) × IsBorne version x.action × IsSaid version x
+asked_takes version [] x fits e = absurd (none-some x e)
+asked_takes version (kind ∷ []) x fits e = absurd (none-some x e)
+asked_takes version (kind ∷ asker ∷ rest) x fits e =
+    elim (chosen (is_asker version asker) (asked_by asker (action_in version (kind ∷ 0 ∷ rest))) None (Some x) e) [
+      | inl (t, s) ↦
+          let p = asked_parts asker (action_in version (kind ∷ 0 ∷ rest)) x s in
+          let b = borne_action_takes version (kind ∷ 0 ∷ rest) p.0 (other_byte kind asker 0 rest (omega arith) fits) p.1 in
+          let said : IsSaid version x = subst (IsSaid version) p.2 t in
+          let whole : kind ∷ asker ∷ rest ≡ text_by x.asker x.action = text_with kind asker rest p.0 b.1 ∙ ap (λ (y : Asked). text_by y.asker y.action) p.2 in
+          (subst (λ (y : Asked). IsAction y.action) p.2 b.0, whole ∙ said_text version x said, subst (λ (y : Asked). IsBorne version y.action) p.2 b.2, said)
+      | inr (t, s) ↦ absurd (none-some x s)
+    ]
+
+pub asked_again : (version : Version) (x : Asked) → IsAction x.action → IsBorne version x.action → IsSaid version x → asked_at version (asked_text version x) ≡ Some x
+asked_again version x h b said =
+    ap (asked_at version) (sym (said_text version x said))
+    ∙ ap (λ (t : Bool). cond t (asked_by x.asker (action_in version (action_text x.action))) None) said
+    ∙ ap (asked_by x.asker) (borne_action_again version x.action h b)
+
+pub asked_long : (version : Version) (x : Asked) → length (asked_text version x) ≡ 16
+asked_long V01 x = refl
+asked_long V02 x = refl
+asked_long V03 x = refl

@@ -1,20 +1,19 @@
 -- A frame of version 03 of which one byte was changed is damage: its checksum is that of other bytes.
 use Rattle.std.proofs.Common.{◌≡◌, ◌≢◌, inl, inr, ℕ, zero, suc, ◌+◌, ◌-◌, ◌*◌, ◌/◌, ◌%◌, ◌<◌, ◌≤◌, List, [], ◌∷◌, ◌++◌, length, get_or, take, drop, Result, Ok, Err, refl, sym, ◌∙◌, ap, subst, append_assoc, arith, length-append}
-use Rattle.std.specs.List.{flat_map, AllByRecursion}
+use Rattle.std.specs.List.{AllByRecursion}
 use Rattle.std.specs.Int.{w32, from_be_bytes}
 use Rattle.std.proofs.lemmas.Bool.{cases_lt}
 use Rattle.std.proofs.lemmas.Nat.{from_be_bytes-to_be_bytes_4}
 use Rattle.std.proofs.lemmas.List.{take_at, drop_at, take-append-le, drop-append-le, append_cancel_left, get_or_append_left}
 use Rattle.std.proofs.lemmas.List.Elements.{All-from_recursion, recursion_from_All}
-use Rattle.alm_types.specs.declared.action.Action.{Action}
+use Rattle.alm_codec.specs.declared.asked.Asked.{Asked}
 use Rattle.alm_sum.specs.Crc.{checksum_of}
 use Rattle.alm_sum.proofs.Bytes.{IsByte, AreBytes}
 use Rattle.alm_sum.proofs.Changes.{few_changes}
 use Rattle.alm_codec.specs.declared.version.Version.TheVariants.{V03}
-use Rattle.alm_codec.specs.Actions.{action_text}
 use Rattle.alm_codec.specs.Reading.{IsBytes}
 use Rattle.alm_codec.specs.Versions.{sum_text}
-use Rattle.alm_codec.specs.Frames.{IsFrame, frame_head, frame_text, frame_at, with_sum}
+use Rattle.alm_codec.specs.Frames.{IsFrame, frame_head, frame_text, frame_at, texts_of, with_sum}
 use Rattle.alm_codec.proofs.FrameBytes.{both, checksum_lt, head_bytes, texts_bytes}
 use Rattle.alm_codec.proofs.Frames.{frame_there, text_length}
 
@@ -143,7 +142,7 @@ by_low m n p q r s e = omega (arith, p, q, r, s, e)
 by_high : (m n : ℕ) → 1 ≤ m → m ≤ 256 → 1 ≤ n → n ≤ 256 → 255 * m / 256 % 256 ≡ 255 * n / 256 % 256 → m ≡ n
 by_high m n p q r s e = omega (arith, p, q, r, s, e)
 
-not_read : (epoch count : ℕ) (list read : List Action) (front back rest left : List ℕ) (a b gate : ℕ) → IsFrame epoch (count + 1) list → IsFrame epoch (count + 1) read
+not_read : (epoch count : ℕ) (list read : List Asked) (front back rest left : List ℕ) (a b gate : ℕ) → IsFrame V03 epoch (count + 1) list → IsFrame V03 epoch (count + 1) read
     → frame_text V03 epoch (count + 1) list ≡ front ++ a ∷ back → (front ++ b ∷ back) ++ gate ∷ rest ≡ frame_text V03 epoch (count + 1) read ++ left → a ≡ b
 not_read epoch count list read front back rest left a b gate p q d e =
     let t : List ℕ = frame_text V03 epoch (count + 1) list in
@@ -162,16 +161,16 @@ not_read epoch count list read front back rest left a b gate p q d e =
     let sized : length u ≡ 18 + 16 * n = text_length V03 epoch (count + 1) read ∙ ap (λ m. 18 + 16 * m) (sym counts) in
     let text : u ≡ front ++ b ∷ back = sym (take_at u left (18 + 16 * n) sized) ∙ ap (take (18 + 16 * n)) (sym e) ∙ take_at (front ++ b ∷ back) (gate ∷ rest) (18 + 16 * n) size in
     let head : (m : ℕ) → List ℕ = frame_head V03 epoch (count + 1) in
-    changed (head (length list)) (flat_map action_text list) (head (length read)) (flat_map action_text read) front back a b refl refl
-    (both (head (length list)) (flat_map action_text list) (head_bytes V03 epoch (count + 1) (length list)) (texts_bytes list))
-    (both (head (length read)) (flat_map action_text read) (head_bytes V03 epoch (count + 1) (length read)) (texts_bytes read)) d text
+    changed (head (length list)) (texts_of V03 list) (head (length read)) (texts_of V03 read) front back a b refl refl
+    (both (head (length list)) (texts_of V03 list) (head_bytes V03 epoch (count + 1) (length list)) (texts_bytes V03 list p.askers))
+    (both (head (length read)) (texts_of V03 read) (head_bytes V03 epoch (count + 1) (length read)) (texts_bytes V03 read q.askers)) d text
 
-pub changed_byte : (epoch count : ℕ) (list : List Action) (front back rest : List ℕ) (a b gate : ℕ) → IsFrame epoch (count + 1) list
+pub changed_byte : (epoch count : ℕ) (list : List Asked) (front back rest : List ℕ) (a b gate : ℕ) → IsFrame V03 epoch (count + 1) list
     → frame_text V03 epoch (count + 1) list ≡ front ++ a ∷ back → IsBytes ((front ++ b ∷ back) ++ gate ∷ rest) → b ≢ a
     → (left : ℕ) × (frame_at V03 epoch count ((front ++ b ∷ back) ++ gate ∷ rest) ≡ Err left)
 changed_byte epoch count list front back rest a b gate p d fits not = by_read (frame_at V03 epoch count ((front ++ b ∷ back) ++ gate ∷ rest)) refl
   where
-    by_read : (r : Result (List Action × List ℕ) ℕ) → frame_at V03 epoch count ((front ++ b ∷ back) ++ gate ∷ rest) ≡ r → (left : ℕ) × (frame_at V03 epoch count ((front ++ b ∷ back) ++ gate ∷ rest) ≡ Err left)
+    by_read : (r : Result (List Asked × List ℕ) ℕ) → frame_at V03 epoch count ((front ++ b ∷ back) ++ gate ∷ rest) ≡ r → (left : ℕ) × (frame_at V03 epoch count ((front ++ b ∷ back) ++ gate ∷ rest) ≡ Err left)
     by_read (Err left) e = (left, e)
     by_read (Ok x) e =
         let f = frame_there V03 epoch count ((front ++ b ∷ back) ++ gate ∷ rest) x.0 x.1 fits e in

@@ -1,15 +1,19 @@
 -- The fields of frames are bytes, and so is their checksum.
-use Rattle.std.proofs.Common.{ℕ, ◌*◌, ◌%◌, ◌^◌, ◌<◌, List, [], ◌∷◌, ◌++◌, length, arith}
+use Rattle.std.proofs.Common.{All, ℕ, ◌*◌, ◌%◌, ◌^◌, ◌<◌, List, [], ◌∷◌, ◌++◌, length, arith}
 use Rattle.std.specs.List.{flat_map, AllByRecursion}
 use Rattle.std.specs.Int.{w16, w32, w64, to_be_bytes}
 use Rattle.std.proofs.lemmas.Nat.{xor_lt}
+use Rattle.std.proofs.lemmas.Bool.{leb-true}
 use Rattle.std.proofs.lemmas.List.Elements.{All-from_recursion, recursion_from_All, All-append}
 use Rattle.alm_types.specs.declared.action.Action.{Action}
 use Rattle.alm_types.specs.declared.action.Action.TheVariants.{Clock, Value, Ack, Reset, Shelve, Unshelve, Oos, Design, SetPriority, SetSetpoint}
-use Rattle.alm_codec.specs.Actions.{kind_of, action_text}
+use Rattle.alm_types.specs.Sizes.{slot_count}
+use Rattle.alm_codec.specs.Actions.{kind_of, text_by, asked_text}
+use Rattle.alm_codec.specs.declared.asked.Asked.{Asked}
+use Rattle.alm_codec.specs.Versions.{IsSaid}
 use Rattle.alm_codec.specs.declared.version.Version.{Version}
 use Rattle.alm_codec.specs.declared.version.Version.TheVariants.{V01, V02, V03}
-use Rattle.alm_codec.specs.Frames.{count_unit, first_text, frame_head}
+use Rattle.alm_codec.specs.Frames.{count_unit, first_text, frame_head, texts_of}
 use Rattle.alm_sum.specs.Crc.{register_after_bytes, checksum_of}
 use Rattle.alm_sum.proofs.Bytes.{IsByte, AreBytes}
 use Rattle.alm_sum.proofs.Changes.{after_lt}
@@ -35,12 +39,20 @@ kind_lt (Design i on) = omega arith
 kind_lt (SetPriority i priority) = omega arith
 kind_lt (SetSetpoint i v) = omega arith
 
-one : (a : Action) → AllByRecursion IsByte (action_text a)
-one a = (kind_lt a, (omega arith, (omega arith, (omega arith, (omega arith, (omega arith, (omega arith, (omega arith, (omega arith, (omega arith, (omega arith, (omega arith, (omega arith, (omega arith, (omega arith, (omega arith, tt))))))))))))))))
+one : (n : ℕ) (a : Action) → n < 256 → AllByRecursion IsByte (text_by n a)
+one n a lt = (kind_lt a, (lt, (omega arith, (omega arith, (omega arith, (omega arith, (omega arith, (omega arith, (omega arith, (omega arith, (omega arith, (omega arith, (omega arith, (omega arith, (omega arith, (omega arith, tt))))))))))))))))
 
-pub texts_bytes : (list : List Action) → AreBytes (flat_map action_text list)
-texts_bytes [] = All-from_recursion IsByte [] tt
-texts_bytes (a ∷ list) = both (action_text a) (flat_map action_text list) (All-from_recursion IsByte (action_text a) (one a)) (texts_bytes list)
+one_asked : (version : Version) (x : Asked) → IsSaid version x → AllByRecursion IsByte (asked_text version x)
+one_asked V01 x said = one 0 x.action (omega arith)
+one_asked V02 x said = one 0 x.action (omega arith)
+one_asked V03 x said = let le = leb-true x.asker slot_count said in one x.asker x.action (omega (arith, le))
+
+each_bytes : (version : Version) (list : List Asked) → AllByRecursion (IsSaid version) list → AreBytes (texts_of version list)
+each_bytes version [] said = All-from_recursion IsByte [] tt
+each_bytes version (x ∷ list) said = both (asked_text version x) (texts_of version list) (All-from_recursion IsByte (asked_text version x) (one_asked version x said.0)) (each_bytes version list said.1)
+
+pub texts_bytes : (version : Version) (list : List Asked) → All (IsSaid version) list → AreBytes (texts_of version list)
+texts_bytes version list said = each_bytes version list (recursion_from_All (IsSaid version) list said)
 
 pub four : (n : ℕ) → AreBytes (to_be_bytes w32 n)
 four n = All-from_recursion IsByte (to_be_bytes w32 n) (omega arith, (omega arith, (omega arith, (omega arith, tt))))
@@ -58,7 +70,7 @@ head_bytes version epoch first n =
 pub checksum_lt : (bytes : List ℕ) → AreBytes bytes → checksum_of bytes < 2 ^ 32
 checksum_lt bytes are = xor_lt 32 (register_after_bytes 0xFFFFFFFF bytes) 0xFFFFFFFF (after_lt 0xFFFFFFFF bytes (omega arith) (recursion_from_All IsByte bytes are)) (omega arith)
 
-pub frame_sum_lt : (version : Version) (epoch first : ℕ) (list : List Action) → checksum_of (frame_head version epoch first (length list) ++ flat_map action_text list) < 2 ^ 32
-frame_sum_lt version epoch first list =
+pub frame_sum_lt : (version : Version) (epoch first : ℕ) (list : List Asked) → All (IsSaid version) list → checksum_of (frame_head version epoch first (length list) ++ texts_of version list) < 2 ^ 32
+frame_sum_lt version epoch first list said =
     let head : List ℕ = frame_head version epoch first (length list) in
-    checksum_lt (head ++ flat_map action_text list) (both head (flat_map action_text list) (head_bytes version epoch first (length list)) (texts_bytes list))
+    checksum_lt (head ++ texts_of version list) (both head (texts_of version list) (head_bytes version epoch first (length list)) (texts_bytes version list said))

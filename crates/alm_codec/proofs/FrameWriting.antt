@@ -1,26 +1,24 @@
 -- Writing a frame: its actions, then what comes before them.
 use Rattle.std.proofs.Common.{◌≡◌, ℕ, ◌+◌, ◌*◌, ◌≤◌, ◌<◌, List, [], ◌∷◌, ◌++◌, length, take, drop, get_or, All, sym, ap, subst, ◌∙◌, append_assoc, arith}
-use Rattle.std.specs.List.{flat_map}
 use Rattle.std.proofs.lemmas.List.{length-append, length-drop, length-take-le, take_more, flat_map_more, drop_at, take_at}
 use Rattle.std.proofs.lemmas.Slice.{drop-append-drop}
 use Rattle.std.proofs.lemmas.List.Elements.{All-from_recursion, All-append}
-use Rattle.alm_types.specs.declared.action.Action.{Action}
-use Rattle.alm_types.specs.Actions.{IsAction}
-use Rattle.alm_codec.specs.Actions.{action_text}
+use Rattle.alm_codec.specs.Actions.{asked_text}
+use Rattle.alm_codec.specs.declared.asked.Asked.{Asked}
 use Rattle.alm_codec.specs.declared.version.Version.{Version}
 use Rattle.alm_codec.specs.Versions.{closed_gate, sum_text}
-use Rattle.alm_codec.specs.Frames.{frame_head, frame_text, frame_body, frame_head_len}
+use Rattle.alm_codec.specs.Frames.{IsAsked, texts_of, frame_head, frame_text, frame_body, frame_head_len}
 use Rattle.alm_codec.specs.Writing.{Wrote}
 use Rattle.alm_codec.proofs.Writing.{Wrote-then}
 
-one_more : (xs : List Action) (i : ℕ) (x : Action) → i < length xs → x ≡ get_or xs i x → take i xs ++ x ∷ [] ≡ take (i + 1) xs
-one_more xs i x lt e = ap (λ (y : Action). take i xs ++ y ∷ []) e ∙ sym (take_more xs i x lt)
+one_more : (xs : List Asked) (i : ℕ) (x : Asked) → i < length xs → x ≡ get_or xs i x → take i xs ++ x ∷ [] ≡ take (i + 1) xs
+one_more xs i x lt e = ap (λ (y : Asked). take i xs ++ y ∷ []) e ∙ sym (take_more xs i x lt)
 
-pub text_more : (xs : List Action) (i : ℕ) (x : Action) → i < length xs → x ≡ get_or xs i x → flat_map action_text (take i xs) ++ action_text x ≡ flat_map action_text (take (i + 1) xs)
-text_more xs i x lt e = flat_map_more action_text [] (take i xs) x ∙ ap (flat_map action_text) (one_more xs i x lt e)
+pub text_more : (version : Version) (xs : List Asked) (i : ℕ) (x : Asked) → i < length xs → x ≡ get_or xs i x → texts_of version (take i xs) ++ asked_text version x ≡ texts_of version (take (i + 1) xs)
+text_more version xs i x lt e = flat_map_more (asked_text version) [] (take i xs) x ∙ ap (texts_of version) (one_more xs i x lt e)
 
-pub limits_more : (xs : List Action) (i : ℕ) (x : Action) → i < length xs → x ≡ get_or xs i x → All IsAction (take i xs) → IsAction x → All IsAction (take (i + 1) xs)
-limits_more xs i x lt e h p = subst (All IsAction) (one_more xs i x lt e) (All-append IsAction (take i xs) (x ∷ []) h (All-from_recursion IsAction (x ∷ []) (p, tt)))
+pub limits_more : (xs : List Asked) (i : ℕ) (x : Asked) → i < length xs → x ≡ get_or xs i x → All IsAsked (take i xs) → IsAsked x → All IsAsked (take (i + 1) xs)
+limits_more xs i x lt e h p = subst (All IsAsked) (one_more xs i x lt e) (All-append IsAsked (take i xs) (x ∷ []) h (All-from_recursion IsAsked (x ∷ []) (p, tt)))
 
 pub head_parts : (p q r a b c : List ℕ) → p ≡ a → q ≡ b → r ≡ c → p ++ q ++ r ≡ a ++ b ++ c
 head_parts p q r a b c e f g = ap (λ (t : List ℕ). t ++ q ++ r) e ∙ ap (λ (t : List ℕ). a ++ t ++ r) f ∙ ap (λ (t : List ℕ). a ++ b ++ t) g
@@ -47,9 +45,9 @@ head_then_texts a b c texts head n size p q low room =
     (front, ap (take size) (behind ∙ here) ∙ take_at texts (drop (18 + size) a) size (omega (arith, p.ends)))
 
 -- a body that was written: the actions, the head before them, the checksum between them, and the next gate
-pub body_is : (version : Version) (old one two three new : List ℕ) (epoch first : ℕ) (list : List Action)
+pub body_is : (version : Version) (old one two three new : List ℕ) (epoch first : ℕ) (list : List Asked)
     → 19 + 16 * length list ≤ length old
-    → Wrote old one 18 (18 + 16 * length list) (flat_map action_text list)
+    → Wrote old one 18 (18 + 16 * length list) (texts_of version list)
     → Wrote one two 0 (frame_head_len version) (frame_head version epoch first (length list))
     → Wrote two three (frame_head_len version) 18 (sum_text version (take (frame_head_len version) two ++ take (16 * length list) (drop 18 two)))
     → Wrote three new (18 + 16 * length list) (18 + 16 * length list + 1) (closed_gate version ∷ [])
@@ -57,12 +55,12 @@ pub body_is : (version : Version) (old one two three new : List ℕ) (epoch firs
 body_is version old one two three new epoch first list room texts head sum gate =
     let end : ℕ = 18 + 16 * length list in
     let h : List ℕ = frame_head version epoch first (length list) in
-    let long : length one ≡ length old = Wrote-length old one 18 end (flat_map action_text list) texts (omega (arith, room)) in
-    let is = head_then_texts old one two (flat_map action_text list) h (frame_head_len version) (16 * length list) texts head (omega arith) (omega (arith, room)) in
-    let s : Wrote two three (frame_head_len version) 18 (sum_text version (h ++ flat_map action_text list)) =
+    let long : length one ≡ length old = Wrote-length old one 18 end (texts_of version list) texts (omega (arith, room)) in
+    let is = head_then_texts old one two (texts_of version list) h (frame_head_len version) (16 * length list) texts head (omega arith) (omega (arith, room)) in
+    let s : Wrote two three (frame_head_len version) 18 (sum_text version (h ++ texts_of version list)) =
     subst (λ (t : List ℕ). Wrote two three (frame_head_len version) 18 (sum_text version t)) (λ i. is.0 i ++ is.1 i) sum in
-    let front : Wrote one three 0 18 (h ++ sum_text version (h ++ flat_map action_text list)) = Wrote-then one two three 0 (frame_head_len version) 18 h (sum_text version (h ++ flat_map action_text list)) head s (omega (arith, room, long)) in
-    let all : Wrote old three 0 end (frame_text version epoch first list) = Wrote-before old one three 18 end (h ++ sum_text version (h ++ flat_map action_text list)) (flat_map action_text list) texts front (omega (arith, room)) in
+    let front : Wrote one three 0 18 (h ++ sum_text version (h ++ texts_of version list)) = Wrote-then one two three 0 (frame_head_len version) 18 h (sum_text version (h ++ texts_of version list)) head s (omega (arith, room, long)) in
+    let all : Wrote old three 0 end (frame_text version epoch first list) = Wrote-before old one three 18 end (h ++ sum_text version (h ++ texts_of version list)) (texts_of version list) texts front (omega (arith, room)) in
     let body = Wrote-then old three new 0 end (end + 1) (frame_text version epoch first list) (closed_gate version ∷ []) all gate (omega (arith, room)) in
     let next : end + 1 ≡ 19 + 16 * length list = omega arith in
     body.is ∙ ap (λ (k : ℕ). frame_body version epoch first list ++ drop k old) next

@@ -6,8 +6,10 @@ use Rattle.alm_types.specs.declared.action.Action.TheVariants.{Clock, Value, Ack
 use Rattle.alm_types.specs.declared.alarm_id.AlarmId.{AlarmId}
 use Rattle.alm_types.specs.Actions.{alarm_of}
 use Rattle.alm_types.specs.Readings.{is_reading}
+use Rattle.alm_codec.specs.declared.asked.Asked.{Asked}
 use Rattle.alm_codec.specs.declared.version.Version.{Version}
-use Rattle.alm_codec.specs.Versions.{borne}
+use Rattle.alm_codec.specs.declared.version.Version.TheVariants.{V01, V02, V03}
+use Rattle.alm_codec.specs.Versions.{borne, is_asker}
 
 -- ---- the encoding
 
@@ -40,12 +42,23 @@ argument_of (Design i on) = switch_number on
 argument_of (SetPriority i priority) = priority
 argument_of (SetSetpoint i v) = cast_unsigned w64 v
 
--- a text of a kind, an alarm and an argument
-abbrev pub fields_text : ℕ → ℕ → ℕ → List ℕ
-fields_text kind alarm argument = kind ∷ 0 ∷ 0 ∷ 0 ∷ to_be_bytes w32 alarm ++ to_be_bytes w64 argument
+-- a text of a kind, who asked, an alarm and an argument
+abbrev pub fields_text : (kind asker alarm argument : ℕ) → List ℕ
+fields_text kind asker alarm argument = kind ∷ asker ∷ 0 ∷ 0 ∷ to_be_bytes w32 alarm ++ to_be_bytes w64 argument
 
+-- an action and who asked for it
+abbrev pub text_by : (asker : ℕ) → Action → List ℕ
+text_by asker a = fields_text (kind_of a) asker (alarm_of a) (argument_of a)
+
+-- an action that doesn't say who asked
 abbrev pub action_text : Action → List ℕ
-action_text a = fields_text (kind_of a) (alarm_of a) (argument_of a)
+action_text a = text_by 0 a
+
+-- an action in a frame; version 03 alone says who asked
+abbrev pub asked_text : Version → Asked → List ℕ
+asked_text V01 x = text_by 0 x.action
+asked_text V02 x = text_by 0 x.action
+asked_text V03 x = text_by x.asker x.action
 
 -- ---- reading
 
@@ -81,7 +94,7 @@ meaning_for kind i argument =
 abbrev pub action_meant : ℕ → ℕ → ℕ → Option Action
 action_meant kind alarm argument = meaning_for kind (record { 0 = alarm }) argument
 
--- the action of any version whose text is all of these bytes
+-- the action of any version whose text is all of these bytes, and doesn't say who asked
 abbrev pub action_at : List ℕ → Option Action
 action_at (kind ∷ zero ∷ zero ∷ zero ∷ a ∷ b ∷ c ∷ d ∷ rest) = if length rest == 8 then action_meant kind (from_be_bytes w32 (a ∷ b ∷ c ∷ d ∷ [])) (from_be_bytes w64 rest) else None
 action_at _ = None
@@ -89,3 +102,16 @@ action_at _ = None
 -- the action of a version
 abbrev pub action_in : Version → List ℕ → Option Action
 action_in version bytes = borne version (action_at bytes)
+
+-- an action that someone asked for
+abbrev pub asked_by : (asker : ℕ) → Option Action → Option Asked
+asked_by asker o = option_map (λ a. record { asker = asker; action = a }) o
+
+-- the same with who asked for it, as far as the version says it
+abbrev pub asked_at : Version → List ℕ → Option Asked
+asked_at version (kind ∷ asker ∷ rest) = if is_asker version asker then asked_by asker (action_in version (kind ∷ 0 ∷ rest)) else None
+asked_at version _ = None
+
+-- the action alone
+abbrev pub action_read : Version → List ℕ → Option Action
+action_read version bytes = option_map (λ x. x.action) (asked_at version bytes)

@@ -1,9 +1,11 @@
 -- What there is in a version.
-use Rattle.std.specs.Prelude.{◌≡◌, ℕ, List, [], Bool, true, false, not, All, Option, Some, None, ◌==◌, if◌then◌else◌}
+use Rattle.std.specs.Prelude.{◌≡◌, ℕ, ◌+◌, List, [], Bool, true, false, not, All, Option, Some, None, nat_le, ◌==◌, if◌then◌else◌}
 use Rattle.std.specs.Int.{w32, to_be_bytes}
 use Rattle.alm_types.specs.declared.action.Action.{Action}
 use Rattle.alm_types.specs.declared.action.Action.TheVariants.{SetPriority, SetSetpoint}
+use Rattle.alm_types.specs.Sizes.{slot_count}
 use Rattle.alm_sum.specs.Crc.{checksum_of}
+use Rattle.alm_codec.specs.declared.asked.Asked.{Asked}
 use Rattle.alm_codec.specs.declared.version.Version.{Version}
 use Rattle.alm_codec.specs.declared.version.Version.TheVariants.{V01, V02, V03}
 
@@ -64,3 +66,18 @@ abbrev pub sum_len : Version → ℕ
 sum_len V01 = 0
 sum_len V02 = 0
 sum_len V03 = 4
+
+-- Who asked for an action: a slot's number and one, or 0 if that isn't said. Before version 03 it isn't.
+abbrev pub is_asker : Version → ℕ → Bool
+is_asker V01 asker = asker == 0
+is_asker V02 asker = asker == 0
+is_asker V03 asker = nat_le asker slot_count
+
+abbrev pub IsSaid : Version → Asked → Type 0
+IsSaid version x = is_asker version x.asker ≡ true
+
+-- who asked, as far as a version says it
+abbrev pub asker_in : Version → ℕ → ℕ
+asker_in V01 slot = 0
+asker_in V02 slot = 0
+asker_in V03 slot = slot + 1

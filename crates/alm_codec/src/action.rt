@@ -1,12 +1,14 @@
 //! The text of an action.
 
-ghost use Rattle.std.specs.Prelude.{◌≡◌, ◌+◌, ◌≤◌, ◌++◌, length, drop, IfOk, IfErr, Ok};
+ghost use Rattle.std.specs.Prelude.{◌≡◌, ◌+◌, ◌≤◌, ◌++◌, ◌∷◌, length, drop, IfOk, IfErr, Ok};
 ghost use Rattle.alm_types.specs.declared.action.Action.{Action as AnAction};
 ghost use Rattle.alm_types.specs.Actions.{IsAction, alarm_of};
-ghost use Rattle.alm_codec.specs.Actions.{action_text, argument_of, kind_of, action_at, action_in, action_meant, reading_at};
+ghost use Rattle.alm_codec.specs.Actions.{action_text, argument_of, asked_at, asked_text, kind_of, action_at, action_in, action_meant, reading_at, text_by};
 ghost use Rattle.alm_codec.specs.Versions.{IsBorne};
 ghost use Rattle.alm_codec.specs.Writing.{Wrote};
 
+use crate::asked::Asked;
+use crate::asker::Asker;
 use crate::damage::Damage;
 use crate::fields::put;
 use crate::version::Version;
@@ -46,26 +48,26 @@ fn meaning(kind: u8, alarm: u32, argument: u64) -> Option<Action>
     }
 }
 
-/// The action of any version whose text is all of these bytes.
-fn any_action_of(text: &[u8]) -> Option<Action>
-    ensures { result ≡ action_at text.now }
+/// The action of any version whose text is a kind, a byte that says nothing and all of these bytes.
+fn any_action_of(kind: u8, text: &[u8]) -> Option<Action>
+    ensures { result ≡ action_at (kind ∷ 0 ∷ text.now) }
 {
     match text {
-        [kind, 0, 0, 0, a, b, c, d, rest @ ..] if rest.len() == 8 => {
+        [0, 0, a, b, c, d, rest @ ..] if rest.len() == 8 => {
             let argument = u64::from_be_bytes([
                 rest[0], rest[1], rest[2], rest[3], rest[4], rest[5], rest[6], rest[7],
             ]);
-            meaning(*kind, u32::from_be_bytes([*a, *b, *c, *d]), argument)
+            meaning(kind, u32::from_be_bytes([*a, *b, *c, *d]), argument)
         }
         _ => None,
     }
 }
 
-/// The action of a version whose text is all of these bytes.
-pub fn action_of(text: &[u8], version: Version) -> Option<Action>
-    ensures { result ≡ action_in version text.now }
+/// The same, if the version has it.
+fn action_behind(kind: u8, text: &[u8], version: Version) -> Option<Action>
+    ensures { result ≡ action_in version (kind ∷ 0 ∷ text.now) }
 {
-    let action = any_action_of(text)?;
+    let action = any_action_of(kind, text)?;
     if version.bears(&action) {
         Some(action)
     } else {
@@ -73,7 +75,29 @@ pub fn action_of(text: &[u8], version: Version) -> Option<Action>
     }
 }
 
-/// The action of a version whose text is all of these bytes.
+/// The action of a version whose text is all of these bytes, and says nothing of who asked.
+fn action_of(text: &[u8], version: Version) -> Option<Action>
+    ensures { result ≡ action_in version text.now }
+{
+    match text {
+        [kind, 0, rest @ ..] => action_behind(*kind, rest, version),
+        _ => None,
+    }
+}
+
+/// The action of a version whose text is all of these bytes, and who asked for it.
+pub fn asked_of(text: &[u8], version: Version) -> Option<Asked>
+    ensures { result ≡ asked_at version text.now }
+{
+    let [kind, asker, rest @ ..] = text else {
+        return None;
+    };
+    let asker = Asker::of_byte(*asker, version)?;
+    let action = action_behind(*kind, rest, version)?;
+    Some(Asked { asker, action })
+}
+
+/// The action of a version whose text is all of these bytes, and says nothing of who asked.
 pub fn read_action(text: &[u8], version: Version) -> Result<Action, Damage>
     // What is read is encoded so.
     ensures found { IfOk result (λ a. IsAction a × (text.now ≡ action_text a) × IsBorne version a) }
@@ -158,17 +182,30 @@ fn argument_of(action: &Action) -> u64
     }
 }
 
-/// Writes the text of an action at a place, and returns its end.
-pub fn put_action(out: &mut [u8], at: usize, action: &Action) -> usize
+/// Writes the text of an action at a place, with the byte of who asked, and returns its end.
+fn put_action(out: &mut [u8], at: usize, asker: u8, action: &Action) -> usize
     requires { at + 16 ≤ length out.old }
     ensures end { result ≡ at + 16 }
-    ensures text { Wrote out.old out.new at result (action_text action.now) }
+    ensures text { Wrote out.old out.new at result (text_by asker action.now) }
     ensures limits { IsAction action.now }
 {
     know_limits(action);
-    let alarm_at = put(out, at, &[kind_of(action), 0, 0, 0]);
+    let alarm_at = put(out, at, &[kind_of(action), asker, 0, 0]);
     let argument_at = put(out, alarm_at, &alarm_of(action).to_be_bytes());
     put(out, argument_at, &argument_of(action).to_be_bytes())
+}
+
+/// Writes the text of an action at a place, with who asked as far as the version says it. Returns its end.
+pub fn put_asked(out: &mut [u8], at: usize, asked: &Asked, version: Version) -> usize
+    requires { at + 16 ≤ length out.old }
+    ensures end { result ≡ at + 16 }
+    ensures text { Wrote out.old out.new at result (asked_text version asked.now) }
+    ensures limits { IsAction asked.now.action }
+{
+    match version {
+        Version::V01 | Version::V02 => put_action(out, at, 0, &asked.action),
+        Version::V03 => put_action(out, at, asked.asker.byte(), &asked.action),
+    }
 }
 
 /// Writes the text of an action into the first 16 bytes.
@@ -177,5 +214,5 @@ pub fn write_action(action: &Action, out: &mut [u8])
     ensures text { out.new ≡ action_text action.now ++ drop 16 out.old }
     ensures limits { IsAction action.now }
 {
-    put_action(out, 0, action);
+    put_action(out, 0, 0, action);
 }

@@ -1,24 +1,24 @@
 //! The text of a frame, after its gate.
 
 ghost use Rattle.std.specs.Prelude.{◌≡◌, ◌+◌, ◌*◌, ◌<◌, ◌≤◌, ◌++◌, ◌∷◌, [], ℕ, List, length, drop, IfOk, OnErr, Ok, vec_len, vec_capacity};
-ghost use Rattle.alm_types.specs.declared.action.Action.{Action as AnAction};
+ghost use Rattle.alm_codec.specs.declared.asked.Asked.{Asked as AnAsked};
 ghost use Rattle.alm_codec.specs.Reading.{Gives, FindsOrDamage};
-ghost use Rattle.alm_codec.specs.Frames.{IsFrame, frame_text, with_front, actions_at, frame_at, IsBefore};
+ghost use Rattle.alm_codec.specs.Frames.{IsFrame, asked_actions, frame_text, with_front, actions_at, frame_at, IsBefore};
 ghost use Rattle.alm_codec.specs.Versions.{AreBorne};
 ghost use Rattle.alm_types.specs.Sizes.{most_entries};
 
-use crate::action::{ACTION_LEN, action_of};
+use crate::action::{ACTION_LEN, asked_of};
+use crate::asked::Asked;
 use crate::bytes_left::BytesLeft;
 use crate::damage::Damage;
 use crate::frame_head::read_head;
 use crate::version::Version;
-use alm_types::Action;
 
 /// Reads `count` actions after the others, and returns the bytes after them.
 fn actions_of<'a>(
     count: u16,
     bytes: &'a [u8],
-    actions: &mut Vec<Action>,
+    actions: &mut Vec<Asked>,
     version: Version,
 ) -> Result<&'a [u8], BytesLeft>
     requires inside { 16 * count ≤ length bytes.now }
@@ -31,10 +31,11 @@ fn actions_of<'a>(
     let mut rest = bytes;
     for _ in 0..count {
         let (text, after) = rest.split_at(ACTION_LEN);
-        let Some(action) = action_of(text, version) else {
+        let Some(asked) = asked_of(text, version) else {
             return Err(BytesLeft(rest.len()));
         };
-        actions.push_reserved(action);
+        let Asked { asker, action } = asked;
+        actions.push_reserved(Asked { asker, action });
         rest = after;
     }
     Ok(rest)
@@ -46,7 +47,7 @@ fn frame_of<'a>(
     bytes: &'a [u8],
     epoch: u64,
     count: u64,
-    actions: &mut Vec<Action>,
+    actions: &mut Vec<Asked>,
     version: Version,
 ) -> Result<&'a [u8], BytesLeft>
     requires { most_entries ≤ vec_capacity actions.old }
@@ -66,17 +67,18 @@ pub fn read_frame(
     bytes: &[u8],
     epoch: u64,
     count: u64,
-    actions: &mut Vec<Action>,
+    actions: &mut Vec<Asked>,
     version: Version,
 ) -> Result<usize, Damage>
     requires { most_entries ≤ vec_capacity actions.old }
     // These bytes are the text of what is read, and the next gate is after it.
     ensures found { IfOk result
-        (λ end. IsFrame epoch (count + 1) actions.new.items × AreBorne version actions.new.items ×
+        (λ end. IsFrame version epoch (count + 1) actions.new.items ×
+        AreBorne version (asked_actions actions.new.items) ×
         IsBefore (frame_text version epoch (count + 1) actions.new.items) end bytes.now) }
     // What is encoded so is read.
-    ensures only { (list : List AnAction) (gate : ℕ) (rest : List ℕ) →
-        IsFrame epoch (count + 1) list → AreBorne version list →
+    ensures only { (list : List AnAsked) (gate : ℕ) (rest : List ℕ) →
+        IsFrame version epoch (count + 1) list → AreBorne version (asked_actions list) →
         bytes.now ≡ frame_text version epoch (count + 1) list ++ gate ∷ rest →
         (result ≡ Ok (18 + 16 * length list)) × (actions.new.items ≡ list) }
     // Which field is damaged.

@@ -1,31 +1,28 @@
 //! Writing the text of a frame, after its gate.
 
 ghost use Rattle.std.specs.Prelude.{◌≡◌, ◌+◌, ◌*◌, ◌<◌, ◌≤◌, ◌++◌, All, length, take, drop};
-ghost use Rattle.std.specs.List.{flat_map};
-ghost use Rattle.alm_types.specs.Actions.{IsAction};
 ghost use Rattle.alm_types.specs.Sizes.{most_entries};
-ghost use Rattle.alm_codec.specs.Actions.{action_text};
-ghost use Rattle.alm_codec.specs.Frames.{IsFrame, count_unit, first_text, frame_body, frame_head, frame_head_len};
-ghost use Rattle.alm_codec.specs.Versions.{sum_len, sum_text};
+ghost use Rattle.alm_codec.specs.Frames.{IsAsked, IsFrame, count_unit, first_text, frame_body, frame_head, frame_head_len, texts_of};
+ghost use Rattle.alm_codec.specs.Versions.{IsSaid, sum_len, sum_text};
 ghost use Rattle.alm_codec.specs.Writing.{Wrote};
 
-use crate::action::put_action;
+use crate::action::put_asked;
+use crate::asked::Asked;
 use crate::fields::put;
 use crate::frame_head::HEAD_LEN;
 use crate::sums::sum_of;
 use crate::version::Version;
-use alm_types::Action;
 
 /// Writes the texts of actions from a place on, and returns their end.
-fn put_actions(out: &mut [u8], at: usize, actions: &[Action]) -> usize
+fn put_actions(out: &mut [u8], at: usize, actions: &[Asked], version: Version) -> usize
     requires { at + 16 * length actions.now ≤ length out.old }
     ensures end { result ≡ at + 16 * length actions.now }
-    ensures text { Wrote out.old out.new at result (flat_map action_text actions.now) }
-    ensures limits { All IsAction actions.now }
+    ensures text { Wrote out.old out.new at result (texts_of version actions.now) }
+    ensures limits { All IsAsked actions.now }
 {
     let mut end = at;
     for action in actions {
-        end = put_action(out, end, action);
+        end = put_asked(out, end, action, version);
     }
     end
 }
@@ -86,7 +83,7 @@ fn put_sum(out: &mut [u8], version: Version, actions: usize)
 pub fn write_frame_body(
     epoch: u64,
     first: u64,
-    actions: &[Action],
+    actions: &[Asked],
     out: &mut [u8],
     version: Version,
 )
@@ -95,9 +92,10 @@ pub fn write_frame_body(
     requires room { 19 + 16 * length actions.now ≤ length out.old }
     ensures text { out.new ≡ frame_body version epoch first actions.now ++
         drop (19 + 16 * length actions.now) out.old }
-    ensures limits { IsFrame epoch first actions.now }
+    // What is written is a frame, if who asked is told as the version tells it.
+    ensures limits { All (IsSaid version) actions.now → IsFrame version epoch first actions.now }
 {
-    let end = put_actions(out, HEAD_LEN, actions);
+    let end = put_actions(out, HEAD_LEN, actions, version);
     put_head(out, version, epoch, first, actions.len() as u16);
     put_sum(out, version, 16 * actions.len());
     put(out, end, &[version.closed_gate()]);

@@ -6,7 +6,8 @@ ghost use Rattle.alm_model.specs.Plant.{Condensed};
 ghost use Rattle.alm_model.specs.Rules.{KeepsRules};
 ghost use Rattle.alm_types.specs.Actions.{IsAction};
 ghost use Rattle.alm_codec.specs.Actions.{action_text};
-ghost use Rattle.alm_codec.specs.Frames.{IsFrame, frame_at, frame_text, shown};
+ghost use Rattle.alm_codec.specs.Frames.{IsFrame, asked_actions, frame_at, frame_text, shown};
+ghost use Rattle.alm_codec.specs.declared.asked.Asked.{Asked};
 ghost use Rattle.alm_codec.specs.Reading.{IsBytes};
 ghost use Rattle.alm_codec.specs.declared.version.Version.{Version};
 ghost use Rattle.alm_codec.specs.declared.version.Version.TheVariants.{V03};
@@ -27,19 +28,20 @@ pub fn undamaged_is_an_image()
 
 /// Bytes are undamaged exactly if they begin with a frame of the version and its next gate.
 pub fn undamaged_is_a_frame()
-    ensures some { (version : Version) (epoch count : ℕ) (bytes : List ℕ) (list : List Action)
+    ensures some { (version : Version) (epoch count : ℕ) (bytes : List ℕ) (list : List Asked)
         (rest : List ℕ) → IsBytes bytes → frame_at version epoch count bytes ≡ Ok (list, rest) →
-        IsFrame epoch (count + 1) list × AreBorne version list ×
+        IsFrame version epoch (count + 1) list × AreBorne version (asked_actions list) ×
         (bytes ≡ frame_text version epoch (count + 1) list ++ rest) × (1 ≤ length rest) }
-    ensures none { (version : Version) (epoch count : ℕ) (list : List Action) (gate : ℕ)
-        (rest : List ℕ) → IsFrame epoch (count + 1) list → AreBorne version list →
+    ensures none { (version : Version) (epoch count : ℕ) (list : List Asked) (gate : ℕ)
+        (rest : List ℕ) → IsFrame version epoch (count + 1) list →
+        AreBorne version (asked_actions list) →
         frame_at version epoch count (frame_text version epoch (count + 1) list ++ gate ∷ rest) ≡
         Ok (list, gate ∷ rest) }
 {}
 
 /// How long the text of a frame is.
 pub fn frame_has_its_length()
-    ensures { (version : Version) (epoch first : ℕ) (list : List Action) →
+    ensures { (version : Version) (epoch first : ℕ) (list : List Asked) →
         length (frame_text version epoch first list) ≡ 18 + 16 * length list }
 {}
 
@@ -51,16 +53,16 @@ pub fn no_action_begins_another()
 
 /// No text of a frame is a prefix of another's of the same version.
 pub fn no_frame_begins_another()
-    ensures { (v : Version) (e f d g : ℕ) (a b : List Action) (x y : List ℕ) →
-        IsFrame e f a → IsFrame d g b →
+    ensures { (v : Version) (e f d g : ℕ) (a b : List Asked) (x y : List ℕ) →
+        IsFrame v e f a → IsFrame v d g b →
         frame_text v e f a ++ x ≡ frame_text v d g b ++ y →
         (e ≡ d) × (shown v f ≡ shown v g) × (a ≡ b) }
 {}
 
 /// A frame of version 03 of which one byte was changed is damaged.
 pub fn a_changed_byte_is_damage()
-    ensures { (epoch count byte changed gate : ℕ) (list : List Action)
-        (front back rest : List ℕ) → IsFrame epoch (count + 1) list →
+    ensures { (epoch count byte changed gate : ℕ) (list : List Asked)
+        (front back rest : List ℕ) → IsFrame V03 epoch (count + 1) list →
         frame_text V03 epoch (count + 1) list ≡ front ++ byte ∷ back → changed ≢ byte →
         IsBytes ((front ++ changed ∷ back) ++ gate ∷ rest) →
         (left : ℕ) × (frame_at V03 epoch count ((front ++ changed ∷ back) ++ gate ∷ rest) ≡ Err left) }

@@ -1,7 +1,7 @@
 //! The texts of frames.
 
-use alm_codec::{Damage, Version, read_frame, write_frame_body};
-use alm_types::{Action, AlarmId, MOST_ENTRIES, Moment, Reading};
+use alm_codec::{Asked, Asker, Damage, Version, read_frame, write_frame_body};
+use alm_types::{Action, AlarmId, MOST_ENTRIES, Moment, Reading, Slot};
 use std::test::Fail;
 
 /// A frame of one action without its gate, with the next gate closed.
@@ -15,11 +15,25 @@ const VALUE_FRAME: [u8; 35] = [
     3, 0x20, 0,
 ];
 
+/// An action that doesn't say who asked.
+fn unsaid(action: Action) -> Asked {
+    Asked {
+        asker: Asker::nobody(),
+        action,
+    }
+}
+
+/// An action that a slot asked for, as a version's frames say it.
+fn asked(slot: u8, action: Action, version: Version) -> Result<Asked, Fail> {
+    let asker = Asker::of(Slot::new(slot).ok_or("slot")?, version);
+    Ok(Asked { asker, action })
+}
+
 #[test]
 fn frames_are_written_and_read(rt: HostRuntime) -> Result<(), Fail> {
     let mut actions = Vec::with_capacity(rt.alloc(), MOST_ENTRIES)?;
     let mut out = [9; 36];
-    let clock = Action::Clock(Moment::new(1000).ok_or("moment")?);
+    let clock = asked(17, Action::Clock(Moment::new(1000).ok_or("moment")?), Version::V02)?;
     write_frame_body(1, 1, &[clock], &mut out, Version::V02);
     assert!(rt; out[..35] == CLOCK_FRAME[..] && out[35] == 9);
     assert_eq!(rt;
@@ -27,7 +41,7 @@ fn frames_are_written_and_read(rt: HostRuntime) -> Result<(), Fail> {
         Ok(34)
     );
     assert_eq!(rt; actions.as_slice(), [clock].as_slice());
-    let value = Action::Value(AlarmId(0), Reading::new(800).ok_or("reading")?);
+    let value = unsaid(Action::Value(AlarmId(0), Reading::new(800).ok_or("reading")?));
     write_frame_body(1, 2, &[value], &mut out, Version::V02);
     assert!(rt; out[..35] == VALUE_FRAME[..]);
     assert_eq!(rt;
@@ -83,7 +97,7 @@ const PRIORITY_FRAME: [u8; 35] = [
 fn a_frame_of_version_02(rt: HostRuntime) -> Result<(), Fail> {
     let mut actions = Vec::with_capacity(rt.alloc(), MOST_ENTRIES)?;
     let mut out = [9; 35];
-    let priorities = [Action::SetPriority(AlarmId(0), 3)];
+    let priorities = [unsaid(Action::SetPriority(AlarmId(0), 3))];
     write_frame_body(2, 3, &priorities, &mut out, Version::V02);
     assert!(rt; out[..] == PRIORITY_FRAME[..]);
     assert_eq!(rt;
@@ -102,7 +116,7 @@ fn a_frame_of_version_02(rt: HostRuntime) -> Result<(), Fail> {
 #[test]
 fn the_longest_frame(rt: HostRuntime) -> Result<(), Fail> {
     let mut actions = Vec::with_capacity(rt.alloc(), MOST_ENTRIES)?;
-    let all = [Action::Ack(AlarmId(7)); 256];
+    let all = [unsaid(Action::Ack(AlarmId(7))); 256];
     let mut out = [0; 4115];
     write_frame_body(u64::MAX, 5, &all, &mut out, Version::V02);
     assert_eq!(rt;
@@ -128,7 +142,7 @@ const SUMMED_FRAME: [u8; 35] = [
 fn a_frame_of_version_03(rt: HostRuntime) -> Result<(), Fail> {
     let mut actions = Vec::with_capacity(rt.alloc(), MOST_ENTRIES)?;
     let mut out = [9; 36];
-    let clock = Action::Clock(Moment::new(1000).ok_or("moment")?);
+    let clock = unsaid(Action::Clock(Moment::new(1000).ok_or("moment")?));
     write_frame_body(1, 1, &[clock], &mut out, Version::V03);
     assert!(rt; out[..35] == SUMMED_FRAME[..] && out[35] == 9);
     assert_eq!(rt;
@@ -177,13 +191,39 @@ const LONGEST_HEAD: [u8; 10] = [0, 0, 0, 5, 0xff, 0, 0x6f, 0x8e, 0x58, 0x1a];
 #[test]
 fn the_longest_frame_of_version_03(rt: HostRuntime) -> Result<(), Fail> {
     let mut actions = Vec::with_capacity(rt.alloc(), MOST_ENTRIES)?;
-    let all = [Action::Ack(AlarmId(7)); 256];
+    let all = [unsaid(Action::Ack(AlarmId(7))); 256];
     let mut out = [0; 4115];
     write_frame_body(u64::MAX, 5, &all, &mut out, Version::V03);
     assert!(rt; out[8..18] == LONGEST_HEAD[..]);
     assert_eq!(rt;
         read_frame(&out, u64::MAX, 4, &mut actions, Version::V03),
         Ok(4114)
+    );
+    assert_eq!(rt; actions.as_slice(), all.as_slice());
+    Ok(())
+}
+
+/// A frame of version 03 with CLOCK 1000 of slot 17 and ACK 7 of slot 15.
+const ASKED_FRAME: [u8; 51] = [
+    0, 0, 0, 0, 0, 0, 0, 1, 0, 0, 0, 1, 1, 254, 134, 194, 189,
+    199, 1, 18, 0, 0, 0, 0, 0, 0, 0, 0, 0, 0, 0, 0, 3, 232,
+    3, 16, 0, 0, 0, 0, 0, 7, 0, 0, 0, 0, 0, 0, 0, 0, 90,
+];
+
+#[test]
+fn version_03_says_who_asked(rt: HostRuntime) -> Result<(), Fail> {
+    let mut actions = Vec::with_capacity(rt.alloc(), MOST_ENTRIES)?;
+    let mut out = [9; 52];
+    let clock = Action::Clock(Moment::new(1000).ok_or("moment")?);
+    let all = [
+        asked(17, clock, Version::V03)?,
+        asked(15, Action::Ack(AlarmId(7)), Version::V03)?,
+    ];
+    write_frame_body(1, 1, &all, &mut out, Version::V03);
+    assert!(rt; out[..51] == ASKED_FRAME[..] && out[51] == 9);
+    assert_eq!(rt;
+        read_frame(&ASKED_FRAME, 1, 0, &mut actions, Version::V03),
+        Ok(50)
     );
     assert_eq!(rt; actions.as_slice(), all.as_slice());
     Ok(())

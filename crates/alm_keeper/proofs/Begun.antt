@@ -1,6 +1,6 @@
 -- How works are begun, in each phase.
 use Rattle.std.proofs.Common.{◌≡◌, inl, ℕ, ◌+◌, ◌^◌, ◌≤◌, ◌<◌, Bool, true, false, List, ◌∷◌, Some, None, refl, sym, subst, arith}
-use Rattle.alm_types.specs.declared.action.Action.{Action}
+use Rattle.alm_codec.specs.declared.asked.Asked.{Asked}
 use Rattle.alm_model.specs.Rules.{KeepsRules}
 use Rattle.alm_codec.specs.Image.{IsOf}
 use Rattle.alm_disk.specs.Device.{DeviceState}
@@ -14,11 +14,11 @@ use Rattle.alm_keeper.proofs.Between.{begins, between}
 use Rattle.alm_keeper.proofs.Phases.{opens}
 
 -- a commit
-pub idle_commits : (a : Account) (actions : List Action) (state : DeviceState) → Commits a actions → KeptIn Rest a state → KeptIn (Frame None Body actions) a state
+pub idle_commits : (a : Account) (actions : List Asked) (state : DeviceState) → Commits a actions → KeptIn Rest a state → KeptIn (Frame None Body actions) a state
 idle_commits a actions state is r =
     (is, tt, begins a actions 0 state r.bytes (inl refl) is.0 is.1 is.2 r.images r.ready (record { reads = r.rests.reads; within = λ i free. r.rests.within i refl; sound = r.rests.sound }))
 
-pub paused_commits : (a : Account) (k : Copy) (actions : List Action) (state : DeviceState) → a.gate + 1 ≤ end_of_half a → Commits a actions → KeptIn (Pause k) a state → KeptIn (Frame (Some k) Body actions) a state
+pub paused_commits : (a : Account) (k : Copy) (actions : List Asked) (state : DeviceState) → a.gate + 1 ≤ end_of_half a → Commits a actions → KeptIn (Pause k) a state → KeptIn (Frame (Some k) Body actions) a state
 paused_commits a k actions state gate is kept = (is, (kept.0, kept.1.wrote), between a k actions state kept.0 gate kept.1 is.0 is.1 is.2)
 
 -- a checkpoint: the stored plant is copied; the other half's gate is closed first if it reads open

@@ -8,6 +8,7 @@ use Rattle.alm_checkpoint.specs.Layouts.{half_at, half_len, other}
 use Rattle.alm_disk.specs.declared.call.Call.{Call}
 use Rattle.alm_disk.specs.declared.call.Call.TheVariants.{Write}
 use Rattle.alm_disk.specs.declared.disk_fault.DiskFault.{DiskFault}
+use Rattle.alm_segment.proofs.Pushed.{asked_length}
 use Rattle.alm_keeper.specs.declared.book.Book.{Book}
 use Rattle.alm_store.specs.declared.progress.Progress.{Progress}
 use Rattle.alm_store.specs.declared.progress.Progress.TheVariants.{More, Done, Failed}
@@ -41,7 +42,7 @@ module _ {D : Type 0} (disk : D) (b : Book) where
       by_stage Idle = refl
       by_stage Close = ap (λ (p : ℕ). Write p 1) at
       by_stage CloseSync = refl
-      by_stage Body = λ j. Write (at j + 1) (long j)
+      by_stage Body = λ j. Write (at j + 1) ((long ∙ ap frame_len (sym (asked_length b.actions.items))) j)
       by_stage BodySync = refl
       by_stage Gate = ap (λ (p : ℕ). Write p 1) at
       by_stage GateSync = refl

@@ -2,11 +2,11 @@
 use Rattle.std.proofs.Common.{◌≡◌, ℕ, ◌+◌, ◌*◌, ◌^◌, ◌≤◌, ◌<◌, Bool, false, List, [], ◌∷◌, ◌++◌, length, take, drop, Result, Ok, sym, ◌∙◌, ap, subst, arith, append_assoc, length-append, length-drop}
 use Rattle.std.proofs.lemmas.List.{ext_get_or, get_or-take, get_or-drop, length-take-le, take-append-le}
 use Rattle.alm_codec.specs.Versions.{closed_gate, newer}
-use Rattle.alm_types.specs.declared.action.Action.{Action}
+use Rattle.alm_codec.specs.declared.asked.Asked.{Asked}
 use Rattle.alm_model.specs.Plant.{Condensed}
 use Rattle.alm_model.specs.Step.{run}
 use Rattle.alm_model.specs.Rules.{AreAdmitted}
-use Rattle.alm_codec.specs.Frames.{IsFrame, frame_text, frame_body}
+use Rattle.alm_codec.specs.Frames.{IsFrame, asked_actions, frame_body, frame_text}
 use Rattle.alm_codec.specs.Image.{image_text}
 use Rattle.alm_disk.specs.Device.{DeviceState, Writes, Syncs, is_within}
 use Rattle.alm_disk.specs.Device.{byte_at as byte_of}
@@ -23,6 +23,7 @@ use Rattle.alm_keeper.specs.Stand.{Account, Ready, end_of_half, other_at, with_c
 use Rattle.alm_keeper.specs.Resting.{RestsBut, Kept}
 use Rattle.alm_keeper.specs.declared.stage.Stage.TheVariants.{Idle}
 use Rattle.alm_keeper.specs.Piecewise.{Copy, since_text, open_text, run_text, IsCopy, is_sent, WrotePart, Paused, with_copied_frame}
+use Rattle.alm_codec.proofs.Frames.{each_newer}
 use Rattle.alm_keeper.proofs.Devices.{frame_long}
 use Rattle.alm_keeper.proofs.Gates.{written_open}
 use Rattle.alm_model.proofs.Runs.{admitted_join, run_append, run_count}
@@ -53,7 +54,7 @@ wrote_sync loose a text state new b rests syncs wrote = ap (part (other_at a + 1
 
 -- ---- the copy
 
-module _ (a : Account) (k : Copy) (actions : List Action) (copy : IsCopy a k) where
+module _ (a : Account) (k : Copy) (actions : List Asked) (copy : IsCopy a k) where
   counted : a.plant.panel.count ≡ k.base.panel.count + length (actions_in k.since)
   counted = sym (ap (λ (q : Condensed). q.panel.count) copy.runs) ∙ run_count k.base (actions_in k.since)
 
@@ -86,16 +87,16 @@ module _ (a : Account) (k : Copy) (actions : List Action) (copy : IsCopy a k) wh
       ∙ sym (take-append-le k.out (open_text a k) (frame ++ closed_gate (newer a.version) ∷ []) copy.left)
       ∙ ap (take k.out) (sym (append_assoc (open_text a k) frame (closed_gate (newer a.version) ∷ [])) ∙ ap (λ (t : List ℕ). t ++ closed_gate (newer a.version) ∷ []) (sym open_grows))
 
-  pub still : IsFrame a.epoch (a.plant.panel.count + 1) actions → AreAdmitted a.plant actions → IsCopy (with_commit a actions) (with_copied_frame k actions)
+  pub still : IsFrame a.version a.epoch (a.plant.panel.count + 1) actions → AreAdmitted a.plant (asked_actions actions) → IsCopy (with_commit a actions) (with_copied_frame k actions)
   still spelled admitted = record {
     more = copy.more;
     image = copy.image;
     sizes = copy.sizes;
     count = copy.count;
     frames = frames_pushed (newer a.version) (a.epoch + 1) k.base.panel.count k.since (written actions) copy.frames (written_open (newer a.version))
-        (record { fits = (copy.more, subst (λ (n : ℕ). n + 1 < 2 ^ 64) counted spelled.fits.1); some = spelled.some; few = spelled.few; limits = spelled.limits });
-    admitted = subst (AreAdmitted k.base) (sym (actions_pushed k.since (written actions))) (admitted_join k.base (actions_in k.since) actions copy.admitted (subst (λ (q : Condensed). AreAdmitted q actions) (sym copy.runs) admitted));
-    runs = ap (run k.base) (actions_pushed k.since (written actions)) ∙ run_append k.base (actions_in k.since) actions ∙ ap (λ (q : Condensed). run q actions) copy.runs;
+        (record { fits = (copy.more, subst (λ (n : ℕ). n + 1 < 2 ^ 64) counted spelled.fits.1); some = spelled.some; few = spelled.few; limits = spelled.limits; askers = each_newer a.version actions spelled.askers });
+    admitted = subst (AreAdmitted k.base) (sym (actions_pushed k.since (written actions))) (admitted_join k.base (actions_in k.since) (asked_actions actions) copy.admitted (subst (λ (q : Condensed). AreAdmitted q (asked_actions actions)) (sym copy.runs) admitted));
+    runs = ap (run k.base) (actions_pushed k.since (written actions)) ∙ run_append k.base (actions_in k.since) (asked_actions actions) ∙ ap (λ (q : Condensed). run q (asked_actions actions)) copy.runs;
     room = omega (arith, copy.room, since_long);
     shut = copy.shut;
     left = omega (arith, copy.left, ap length open_grows, length-append (open_text a k) frame);

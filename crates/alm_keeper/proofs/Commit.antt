@@ -1,16 +1,16 @@
 -- The bytes of a commit: its frame after the gate of the half that stands.
 use Rattle.std.proofs.Common.{◌≡◌, ℕ, ◌+◌, ◌*◌, ◌≤◌, true, false, List, [], ◌∷◌, ◌++◌, length, take, drop, sym, ◌∙◌, ap, arith, append_assoc, length-append, length-drop, take-append-drop}
 use Rattle.std.proofs.lemmas.List.{length-take-le}
-use Rattle.alm_types.specs.declared.action.Action.{Action}
+use Rattle.alm_codec.specs.declared.asked.Asked.{Asked}
 use Rattle.alm_model.specs.Plant.{Condensed}
 use Rattle.alm_model.specs.Step.{run}
 use Rattle.alm_model.specs.Rules.{AreAdmitted}
 use Rattle.alm_codec.specs.declared.version.Version.{Version}
-use Rattle.alm_codec.specs.Frames.{IsFrame, frame_text, frame_body}
+use Rattle.alm_codec.specs.Frames.{IsFrame, asked_actions, frame_body, frame_text}
 use Rattle.alm_codec.specs.Versions.{is_open, closed_gate}
 use Rattle.alm_checkpoint.specs.Cut.{Cut, Stores, Reaches, front, back, with_frame}
 use Rattle.alm_checkpoint.proofs.Grown.{pushes, reaches_pushed, stores_pushed, gate_at}
-use Rattle.alm_keeper.specs.Stand.{HoldsPlant, Account, account_of, Ready, TakesFrame, with_commit}
+use Rattle.alm_keeper.specs.Stand.{HoldsPlant, Account, account_of, Ready, TakesAsked, with_commit}
 use Rattle.alm_keeper.proofs.Devices.{frame_long}
 use Rattle.alm_keeper.proofs.Gates.{closed_shut}
 
@@ -24,11 +24,11 @@ regroup_body g z f t l b = simp append_assoc
 pub ready_holds : (a : Account) (b : List ℕ) → Ready a b → HoldsPlant a.epoch a.plant b
 ready_holds a b r = record { cut = r.cut; in_epoch = sym (ap (λ (x : Account). x.epoch) r.is); stores = r.stores; gate = r.gate; closed = r.closed; tail = r.tail; reaches = r.reaches; text = r.text }
 
-pub body_long : (v : Version) (e n : ℕ) (actions : List Action) → length (frame_body v e n actions) ≡ 19 + 16 * length actions
+pub body_long : (v : Version) (e n : ℕ) (actions : List Asked) → length (frame_body v e n actions) ≡ 19 + 16 * length actions
 body_long v e n actions = omega (arith, frame_long v e n actions, length-append (frame_text v e n actions) (closed_gate v ∷ []))
 
-module _ (c : Cut) (plant : Condensed) (actions : List Action) (gate : ℕ) (tail : List ℕ) (stores : Stores c plant) (frame : IsFrame c.epoch (plant.panel.count + 1) actions) (admitted : AreAdmitted plant actions)
-    (closed : is_open c.version gate ≡ false) (reaches : Reaches c (gate ∷ tail)) (takes : TakesFrame (account_of c plant) actions) where
+module _ (c : Cut) (plant : Condensed) (actions : List Asked) (gate : ℕ) (tail : List ℕ) (stores : Stores c plant) (frame : IsFrame c.version c.epoch (plant.panel.count + 1) actions) (admitted : AreAdmitted plant (asked_actions actions))
+    (closed : is_open c.version gate ≡ false) (reaches : Reaches c (gate ∷ tail)) (takes : TakesAsked (account_of c plant) actions) where
   abbrev pub n : ℕ
   n = 19 + 16 * length actions
 
@@ -53,28 +53,28 @@ module _ (c : Cut) (plant : Condensed) (actions : List Action) (gate : ℕ) (tai
   -- with any open gate
   module _ (own : ℕ) (opened : is_open c.version own ≡ true) where
     abbrev grown_cut : Cut
-    grown_cut = with_frame c (record { gate = own; actions = actions })
+    grown_cut = with_frame c (record { gate = own; asked = actions })
 
     abbrev next : ℕ
     next = closed_gate c.version
 
-    grown : Stores grown_cut (run plant actions)
-    grown = stores_pushed c plant (record { gate = own; actions = actions }) stores opened frame takes.1 admitted
+    grown : Stores grown_cut (run plant (asked_actions actions))
+    grown = stores_pushed c plant (record { gate = own; asked = actions }) stores opened frame takes.1 admitted
 
     grown_reaches : Reaches grown_cut (next ∷ drop n tail)
-    grown_reaches = reaches_pushed c plant (record { gate = own; actions = actions }) (next ∷ drop n tail) stores (omega (arith, reaches, left_long, length-append (own ∷ t) (next ∷ drop n tail), frame_long c.version c.epoch (plant.panel.count + 1) actions))
+    grown_reaches = reaches_pushed c plant (record { gate = own; asked = actions }) (next ∷ drop n tail) stores (omega (arith, reaches, left_long, length-append (own ∷ t) (next ∷ drop n tail), frame_long c.version c.epoch (plant.panel.count + 1) actions))
 
     pub ready : Ready (with_commit (account_of c plant) actions) (front c ++ (own ∷ text) ++ (drop n tail ++ back c))
     ready =
         let place : length (front c) + (19 + 16 * length actions) ≡ length (front grown_cut) =
-        omega (arith, gate_at c plant (gate ∷ tail) stores reaches, gate_at grown_cut (run plant actions) (next ∷ drop n tail) grown grown_reaches, left_long) in
+        omega (arith, gate_at c plant (gate ∷ tail) stores reaches, gate_at grown_cut (run plant (asked_actions actions)) (next ∷ drop n tail) grown grown_reaches, left_long) in
         record {
           cut = grown_cut;
-          is = ap (λ (g : ℕ). record (account_of c plant) { gate = g; plant = run plant actions }) place;
+          is = ap (λ (g : ℕ). record (account_of c plant) { gate = g; plant = run plant (asked_actions actions) }) place;
           stores = grown;
           gate = next;
           closed = closed_shut c.version;
           tail = drop n tail;
           reaches = grown_reaches;
-          text = regroup_body own next (front c) t (drop n tail) (back c) ∙ pushes c plant (record { gate = own; actions = actions }) (next ∷ drop n tail) stores;
+          text = regroup_body own next (front c) t (drop n tail) (back c) ∙ pushes c plant (record { gate = own; asked = actions }) (next ∷ drop n tail) stores;
         }

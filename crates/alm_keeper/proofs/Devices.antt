@@ -1,6 +1,6 @@
 -- How long the texts of a device are.
 use Rattle.std.proofs.Common.{◌≡◌, ℕ, ◌+◌, ◌*◌, List, ◌∷◌, ◌++◌, length, arith, length-append}
-use Rattle.alm_types.specs.declared.action.Action.{Action}
+use Rattle.alm_codec.specs.declared.asked.Asked.{Asked}
 use Rattle.alm_model.specs.Plant.{Condensed}
 use Rattle.alm_codec.specs.Frames.{frame_text}
 use Rattle.alm_codec.specs.declared.version.Version.{Version}
@@ -13,7 +13,7 @@ use Rattle.alm_checkpoint.specs.Cut.{Cut, Stores, head_before, half_text}
 use Rattle.alm_checkpoint.proofs.HeaderLaws.{head_long}
 use Rattle.alm_checkpoint.proofs.Shown.{image_is_long}
 
-pub frame_long : (version : Version) (epoch first : ℕ) (actions : List Action) → length (frame_text version epoch first actions) ≡ 18 + 16 * length actions
+pub frame_long : (version : Version) (epoch first : ℕ) (actions : List Asked) → length (frame_text version epoch first actions) ≡ 18 + 16 * length actions
 frame_long version epoch first actions = text_length version epoch first actions
 
 pub half_long : (c : Cut) (plant : Condensed) → Stores c plant → length (half_text c.layout c.half c.version c.half_gate c.epoch c.base c.frames) ≡ 25 + image_size c.layout + length (frames_text c.version c.epoch c.base.panel.count c.frames)

@@ -1,7 +1,7 @@
 -- What is kept of a device from one call to the next.
 use Rattle.std.proofs.Common.{◌≡◌, ◌⊎◌, inl, inr, ⊎_elim, ℕ, ◌+◌, ◌-◌, ◌≤◌, Bool, true, false, List, [], ◌∷◌, ◌++◌, length, take, drop, Result, Ok, refl, sym, ◌∙◌, ap, subst, arith, append_assoc, length-append, ◌==◌, if◌then◌else◌}
 use Rattle.std.proofs.lemmas.List.{take_at, length-take-le}
-use Rattle.alm_types.specs.declared.action.Action.{Action}
+use Rattle.alm_codec.specs.declared.asked.Asked.{Asked}
 use Rattle.alm_codec.specs.Versions.{closed_gate, newer}
 use Rattle.alm_codec.specs.Frames.{frame_body, frame_text}
 use Rattle.alm_disk.specs.Device.{DeviceState, IsImage, Writes}
@@ -57,7 +57,7 @@ IsClosing Close = Unit {0}
 IsClosing CloseSync = Unit {0}
 IsClosing stage = ⊥
 
-module _ (result : Result Unit DiskFault) (a : Account) (actions : List Action) (n : ℕ) (old new : DeviceState) where
+module _ (result : Result Unit DiskFault) (a : Account) (actions : List Asked) (n : ℕ) (old new : DeviceState) where
   abbrev body : List ℕ
   body = frame_body a.version a.epoch (a.plant.panel.count + 1) actions
 
@@ -124,7 +124,7 @@ module _ (result : Result Unit DiskFault) (old new : DeviceState) (b : Book) (i 
   abbrev a : Account
   a = account b
 
-  abbrev acts : List Action
+  abbrev acts : List Asked
   acts = b.actions.items
 
   by_copying : (copying : Bool) → (copying ≡ false → MakesCall (work_alone b.stage acts) a (piece_of b) result old new)
@@ -181,7 +181,7 @@ next_is b stage is works = ap (λ (s : Stage). account_next_at s b.work b) is �
     by_stage Stopped never = absurd never
 
 -- at any moment of a call, by what is under way
-module _ (a : Account) (actions : List Action) (x : List ℕ) where
+module _ (a : Account) (actions : List Asked) (x : List ℕ) where
   abbrev Before : List ℕ → Type 0
   Before b = HoldsPlant a.epoch a.plant b
 
@@ -294,7 +294,7 @@ grows_run old new k copy run long account_is g =
     front = sym (take_at (open_text (account old) k) (closed_gate (newer old.version) ∷ []) (old.run - 1) size) ∙ ap (take (old.run - 1)) run
 
 module _ (step : Progress) (old new : Book) (state : DeviceState) (i : InOrder old) (works : IsWorking old.stage) where
-  abbrev listed : List Action
+  abbrev listed : List Asked
   listed = old.actions.items
 
   as_book : (b : Book) (stage : Stage) (copying : Bool) (work : Work) → b.stage ≡ stage → b.copying ≡ copying → b.work ≡ work → KeptBy stage copying work b state → Keeps state b

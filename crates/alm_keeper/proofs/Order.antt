@@ -4,14 +4,14 @@ use Rattle.std.proofs.lemmas.List.{take-take}
 use Rattle.std.proofs.lemmas.Bool.{and_parts, leb-true}
 use Rattle.alm_keeper.specs.Stages.{IsWorking, first_stage, rest_stage, rest_work, phase_of}
 use Rattle.alm_store.specs.Advancing.{IsResting}
-use Rattle.alm_types.specs.declared.action.Action.{Action}
+use Rattle.alm_codec.specs.declared.asked.Asked.{Asked}
 use Rattle.alm_model.specs.Step.{run}
 use Rattle.alm_model.specs.Rules.{KeepsRules}
 use Rattle.alm_model.proofs.Kept.{run-keeps}
 use Rattle.alm_model.proofs.Runs.{run_sizes, run_within}
 use Rattle.alm_codec.specs.declared.version.Version.{Version}
 use Rattle.alm_codec.specs.Versions.{newer}
-use Rattle.alm_codec.specs.Frames.{frame_body}
+use Rattle.alm_codec.specs.Frames.{asked_actions, frame_body}
 use Rattle.alm_codec.specs.Image.{IsOf, image_text, image_len}
 use Rattle.alm_codec.proofs.Spelled.{image_length}
 use Rattle.alm_checkpoint.specs.Layouts.{image_size, head_len, device_len, segment_at}
@@ -108,16 +108,16 @@ sent_at b stage work i works at is on =
     subst (λ (s : Stage). HasSent s work b.out b.run) at (subst (λ (w : Work). HasSent b.stage w b.out b.run) is (opened b i here on).sent)
 
 -- the plant after a commit
-pub rules_after : (b : Book) → InOrder b → Committing (account b) b.actions.items b.frame.items b.ahead → KeepsRules (run b.stored b.actions.items)
-rules_after b i c = run-keeps b.stored b.actions.items i.rules c.admitted
+pub rules_after : (b : Book) → InOrder b → Committing (account b) b.actions.items b.frame.items b.ahead → KeepsRules (run b.stored (asked_actions b.actions.items))
+rules_after b i c = run-keeps b.stored (asked_actions b.actions.items) i.rules c.admitted
 
-pub sizes_after : (b : Book) → InOrder b → Committing (account b) b.actions.items b.frame.items b.ahead → IsOf b.layout.rows b.layout.areas (run b.stored b.actions.items).panel.count (run b.stored b.actions.items)
+pub sizes_after : (b : Book) → InOrder b → Committing (account b) b.actions.items b.frame.items b.ahead → IsOf b.layout.rows b.layout.areas (run b.stored (asked_actions b.actions.items)).panel.count (run b.stored (asked_actions b.actions.items))
 sizes_after b i c =
-    let s = run_sizes b.stored b.actions.items i.rules.measured in
+    let s = run_sizes b.stored (asked_actions b.actions.items) i.rules.measured in
     record { by_rows = s.0 ∙ i.sizes.by_rows; by_areas = s.1 ∙ i.sizes.by_areas; by_count = refl }
 
-pub count_after : (b : Book) → InOrder b → Committing (account b) b.actions.items b.frame.items b.ahead → (run b.stored b.actions.items).panel.count ≤ 2 ^ 48
-count_after b i c = run_within b.stored b.actions.items i.count c.admitted
+pub count_after : (b : Book) → InOrder b → Committing (account b) b.actions.items b.frame.items b.ahead → (run b.stored (asked_actions b.actions.items)).panel.count ≤ 2 ^ 48
+count_after b i c = run_within b.stored (asked_actions b.actions.items) i.count c.admitted
 
 -- no work is under way: none is begun
 pub rests : (b : Book) → IsResting (phase_of b.stage b.work) → InOrder b → b.ahead ≡ b.stored
@@ -281,7 +281,7 @@ ordered_by old mid new i last is s c ahead frame actions buffer within =
     (ap (λ a. vec_capacity a) actions ∙ ap (λ (b : Book). vec_capacity b.actions) s.1 ∙ i.room) (buffer ∙ ap (λ (b : Book). vec_capacity b.buffer) s.1) within
 
 -- a frame at the end of the run
-pub grown_by : (old mid new : Book) → Stores old mid → (version : Version) (actions : List Action) (first : ℕ) → version ≡ newer mid.version → actions ≡ mid.actions.items → first ≡ old.stored.panel.count + 1
+pub grown_by : (old mid new : Book) → Stores old mid → (version : Version) (actions : List Asked) (first : ℕ) → version ≡ newer mid.version → actions ≡ mid.actions.items → first ≡ old.stored.panel.count + 1
     → take (mid.run + (19 + 16 * length actions)) new.buffer.items ≡ take (mid.run - 1) mid.buffer.items ++ (165 ∷ frame_body version (mid.epoch + 1) first actions) → new.run ≡ mid.run + (19 + 16 * length mid.actions.items) → GrowsBook old new
 grown_by old mid new s version actions first of_version same is text run = record { run = grows; text = all }
   where
@@ -298,7 +298,7 @@ grown_by old mid new s version actions first of_version same is text run = recor
     grows = run ∙ (λ i. runs i + (19 + 16 * length (s.1 i).actions.items))
 
     size : new.run ≡ mid.run + (19 + 16 * length actions)
-    size = run ∙ ap (λ (l : List Action). mid.run + (19 + 16 * length l)) (sym same)
+    size = run ∙ ap (λ (l : List Asked). mid.run + (19 + 16 * length l)) (sym same)
 
     front : take (mid.run - 1) mid.buffer.items ≡ take (old.run - 1) (run_in old)
     front = (λ i. take (runs i - 1) (s.1 i).buffer.items) ∙ sym (take-take (old.run - 1) old.run old.buffer.items (omega arith))

@@ -2,14 +2,14 @@
 use Rattle.std.proofs.Common.{◌≡◌, ◌≢◌, ◌⊎◌, ⊎_elim, ℕ, ◌+◌, ◌≤◌, Bool, true, false, List, [], ◌∷◌, length, take, Option, Some, None, Result, Ok, refl, sym, ap, subst, arith, length-append, ◌==◌, if◌then◌else◌}
 use Rattle.std.proofs.lemmas.Bool.{eqb-true, eqb-false}
 use Rattle.std.proofs.lemmas.List.{length-take-le}
-use Rattle.alm_types.specs.declared.action.Action.{Action}
+use Rattle.alm_codec.specs.declared.asked.Asked.{Asked}
 use Rattle.alm_codec.specs.Frames.{frame_body}
 use Rattle.alm_disk.specs.Device.{DeviceState}
 use Rattle.alm_disk.specs.Device.{IsImage as IsLeft}
 use Rattle.alm_checkpoint.specs.Layouts.{half_len, part}
 use Rattle.alm_codec.specs.Versions.{closed_gate, newer}
 use Rattle.alm_codec.specs.declared.version.Version.{Version}
-use Rattle.alm_keeper.specs.Stand.{Ready, Account, other_at, end_of_half, TakesFrame, with_commit}
+use Rattle.alm_keeper.specs.Stand.{Ready, Account, other_at, end_of_half, TakesAsked, with_commit}
 use Rattle.alm_keeper.specs.Resting.{or_within, with_gate, Kept}
 use Rattle.alm_keeper.specs.Stages.{During, next_stage}
 use Rattle.alm_keeper.specs.declared.stage.Stage.{Stage}
@@ -66,7 +66,7 @@ module _ (E : Type 0) (loose : ℕ → Bool) (Before After : List ℕ → Type 0
   goes Stopped call kept = absurd call
 
 -- what went out stays in a commit's calls
-module _ (E : Type 0) (a : Account) (k : Copy) (actions : List Action) (old new : DeviceState) (c : IsCopy a k) (takes : TakesFrame a actions) (gate : a.gate + 1 ≤ end_of_half a) where
+module _ (E : Type 0) (a : Account) (k : Copy) (actions : List Asked) (old new : DeviceState) (c : IsCopy a k) (takes : TakesAsked a actions) (gate : a.gate + 1 ≤ end_of_half a) where
   abbrev gone : List ℕ
   gone = take k.out (run_text a k)
 
@@ -104,11 +104,11 @@ rested_by a state loose Before at text free kept = record {
   rests = record { reads = kept.stands.2.reads; within = λ i f. kept.stands.2.within i (free i); sound = kept.stands.2.sound };
 }
 
-module _ (E : Type 0) (a : Account) (actions : List Action) (old new : DeviceState) (gate : a.gate + 1 ≤ end_of_half a) where
+module _ (E : Type 0) (a : Account) (actions : List Asked) (old new : DeviceState) (gate : a.gate + 1 ≤ end_of_half a) where
   abbrev text : List ℕ
   text = frame_body a.version a.epoch (a.plant.panel.count + 1) actions
 
-  besides : (other : Option Copy) (step : Stage) → TakesFrame a actions → StageCall {E = E} a.layout.version step a.gate text (Ok tt) old new → Kept (is_sent a (out_of other)) (Ready a) (Ready (with_commit a actions)) step old a.gate text
+  besides : (other : Option Copy) (step : Stage) → TakesAsked a actions → StageCall {E = E} a.layout.version step a.gate text (Ok tt) old new → Kept (is_sent a (out_of other)) (Ready a) (Ready (with_commit a actions)) step old a.gate text
       → Beside other a old → Beside other a new
   besides None step takes call kept beside = tt
   besides (Some k) step takes call kept beside = (beside.0, stays E a k actions old new beside.0 takes gate step call kept beside.1)

@@ -2,6 +2,14 @@
 use Rattle.std.proofs.Common.{◌≡◌, ℕ, ◌+◌, ◌-◌, Bool, true, false, List, length, Result, Ok, Err, refl, sym, ◌∙◌, ap, subst, arith}
 use Rattle.alm_codec.specs.Versions.{newer}
 use Rattle.alm_types.specs.declared.action.Action.{Action}
+use Rattle.alm_types.specs.declared.entry.Entry.{Entry}
+use Rattle.alm_codec.specs.declared.asked.Asked.{Asked}
+use Rattle.alm_codec.specs.declared.version.Version.{Version}
+use Rattle.alm_codec.specs.Frames.{asked_actions}
+use Rattle.alm_model.specs.Judging.{accepted_of}
+use Rattle.alm_segment.proofs.Pushed.{asked_length}
+use Rattle.alm_keeper.specs.Batch.{asked_of}
+use Rattle.alm_keeper.proofs.Tried.{asked_accepted}
 use Rattle.alm_model.specs.Step.{run}
 use Rattle.alm_segment.specs.Course.{frame_len}
 use Rattle.alm_checkpoint.specs.Layouts.{head_len, image_size}
@@ -19,11 +27,11 @@ use Rattle.alm_keeper.specs.Keeper.{HasRoom, HasRoomFor as StandingTakes, with_a
 use Rattle.alm_keeper.specs.Keeping.{account, done_by, account_next_at, standing_by, keeper_of, Begins, Copies, ClosesBook, TurnsBook, GrowsWhere, IsBookAfter, EndsStep}
 
 -- a commit, a checkpoint
-pub after_commit : (a : Account) (actions : List Action) → standing_by (with_commit a actions) ≡ with_actions (standing_by a) actions
-after_commit a actions = λ i. record { version = a.version; epoch = a.epoch; plant = run a.plant actions; room = left i }
+pub after_commit : (a : Account) (asked : List Asked) → standing_by (with_commit a asked) ≡ with_actions (standing_by a) (asked_actions asked)
+after_commit a asked = λ i. record { version = a.version; epoch = a.epoch; plant = run a.plant (asked_actions asked); room = left i }
   where
-    left : end_of_half a - (a.gate + frame_len (length actions)) ≡ end_of_half a - a.gate - frame_len (length actions)
-    left = omega arith
+    left : end_of_half a - (a.gate + frame_len (length asked)) ≡ end_of_half a - a.gate - frame_len (length (asked_actions asked))
+    left = omega (arith, asked_length asked)
 
 pub after_checkpoint : (a : Account) (n : ℕ) → standing_by (turned_half a n) ≡ with_checkpoint (head_len + image_size a.layout + a.layout.segment) n (standing_by a)
 after_checkpoint a n = λ i. record { version = newer a.version; epoch = a.epoch + 1; plant = a.plant; room = left i }
@@ -32,8 +40,8 @@ after_checkpoint a n = λ i. record { version = newer a.version; epoch = a.epoch
     left = omega arith
 
 module _ {D : Type 0} (disk : D) where
-  pub begins_seen : (result : Result Unit Refused) (actions : List Action) (old new : Book) → Begins result actions old new → BeginsCommit result actions (keeper_of disk old) (keeper_of disk new)
-  begins_seen (Ok _) actions old new b = λ i. record {
+  pub begins_seen : (result : Result Unit Refused) (version : Version) (entries : List Entry) (old new : Book) → Begins result (asked_of version entries) old new → BeginsCommit result (accepted_of entries) (keeper_of disk old) (keeper_of disk new)
+  begins_seen (Ok _) version entries old new b = λ i. record {
     disk = disk;
     stage = b.1 i;
     work = b.2 i;
@@ -42,13 +50,13 @@ module _ {D : Type 0} (disk : D) where
     image = image_size (b.4.account i).layout;
     segment = (b.4.account i).layout.segment;
     stored = standing_by (b.4.account i);
-    actions = b.3 i;
+    actions = (ap asked_actions b.3 ∙ asked_accepted version entries) i;
     copying = b.4.copying i;
     run = b.4.run i;
     out = b.4.out i;
     written = b.4.written i;
   }
-  begins_seen (Err (no.NotAccepted place)) actions old new b = λ i. record {
+  begins_seen (Err (no.NotAccepted place)) version entries old new b = λ i. record {
     disk = disk;
     stage = b.1 i;
     work = b.2 i;
@@ -57,16 +65,16 @@ module _ {D : Type 0} (disk : D) where
     image = image_size (b.4.account i).layout;
     segment = (b.4.account i).layout.segment;
     stored = standing_by (b.4.account i);
-    actions = b.3 i;
+    actions = asked_actions (b.3 i);
     copying = b.4.copying i;
     run = b.4.run i;
     out = b.4.out i;
     written = b.4.written i;
   }
-  begins_seen (Err no.Stopped) actions old new b = ap (keeper_of disk) b
-  begins_seen (Err no.Working) actions old new b = ap (keeper_of disk) b
-  begins_seen (Err no.Gap) actions old new b = ap (keeper_of disk) b
-  begins_seen (Err no.Exhausted) actions old new b = ap (keeper_of disk) b
+  begins_seen (Err no.Stopped) version entries old new b = ap (keeper_of disk) b
+  begins_seen (Err no.Working) version entries old new b = ap (keeper_of disk) b
+  begins_seen (Err no.Gap) version entries old new b = ap (keeper_of disk) b
+  begins_seen (Err no.Exhausted) version entries old new b = ap (keeper_of disk) b
 
   pub copies_seen : (result : Result Unit Refused) (old new : Book) → Copies result old new → BeginsCheckpoint result (keeper_of disk old) (keeper_of disk new)
   copies_seen (Ok _) old new b = λ i. record {
@@ -78,7 +86,7 @@ module _ {D : Type 0} (disk : D) where
     image = image_size (b.account i).layout;
     segment = (b.account i).layout.segment;
     stored = standing_by (b.account i);
-    actions = b.actions i;
+    actions = asked_actions (b.actions i);
     copying = b.copying i;
     run = b.run i;
     out = b.out i;
@@ -98,15 +106,15 @@ module _ {D : Type 0} (disk to : D) (old new : Book) where
     image = image_size (c.account i).layout;
     segment = (c.account i).layout.segment;
     stored = (ap standing_by c.account ∙ after_commit (account old) old.actions.items) i;
-    actions = c.actions i;
+    actions = asked_actions (c.actions i);
     copying = c.copying i;
     run = by_copying old.copying c.grows i;
     out = c.out i;
     written = c.written i;
   }
     where
-      by_copying : (copying : Bool) → GrowsWhere copying old new → new.run ≡ after_frame copying old.run (length old.actions.items)
-      by_copying true g = g.run
+      by_copying : (copying : Bool) → GrowsWhere copying old new → new.run ≡ after_frame copying old.run (length (asked_actions old.actions.items))
+      by_copying true g = omega (arith, g.run, asked_length old.actions.items)
       by_copying false g = g
 
   turns_seen : TurnsBook old new → keeper_of to new ≡ record (after_by GateSync Checkpoint (keeper_of disk old)) { disk = to }
@@ -119,7 +127,7 @@ module _ {D : Type 0} (disk to : D) (old new : Book) where
     image = image_size (t.account i).layout;
     segment = (t.account i).layout.segment;
     stored = (ap standing_by t.account ∙ after_checkpoint (account old) old.run) i;
-    actions = t.actions i;
+    actions = asked_actions (t.actions i);
     copying = t.copying i;
     run = t.run i;
     out = t.out i;

@@ -12,12 +12,13 @@ use Rattle.alm_checkpoint.specs.Opening.{opened_in}
 use Rattle.alm_checkpoint.specs.Cut.{device_of}
 use Rattle.alm_checkpoint.proofs.Shown.{shown, shown_opens, stands}
 use Rattle.alm_checkpoint.proofs.Grown.{gate_at}
+use Rattle.alm_segment.proofs.Pushed.{asked_length}
 use Rattle.alm_keeper.specs.declared.book.Book.{Book}
 use Rattle.alm_keeper.specs.declared.stage.Stage.{Stage}
 use Rattle.alm_keeper.specs.declared.stage.Stage.TheVariants.{Idle, Close, CloseSync, Body, BodySync, Gate, GateSync, Stopped}
 use Rattle.alm_keeper.specs.declared.stage.Work.{Work}
 use Rattle.alm_keeper.specs.declared.stage.Work.TheVariants.{Commit, Checkpoint}
-use Rattle.alm_types.specs.declared.action.Action.{Action}
+use Rattle.alm_codec.specs.declared.asked.Asked.{Asked}
 use Rattle.alm_keeper.specs.Stages.{IsWorking, During, phase_of}
 use Rattle.alm_store.specs.Advancing.{IsResting}
 use Rattle.alm_keeper.specs.Stand.{HoldsPlant, Ready, Account, account_of, with_commit, turned_half}
@@ -92,7 +93,7 @@ pub after_seen : {D : Type 0} (disk : D) (book : Book) (b : List ℕ) → After 
 after_seen disk book b s = subst (λ (x : Standing). IsStoredIn x b) (next_seen disk book book.stage) s
 
 -- by what is under way
-module _ (a : Account) (actions : List Action) (state : DeviceState) (b : List ℕ) (left : IsImage state b) where
+module _ (a : Account) (actions : List Asked) (state : DeviceState) (b : List ℕ) (left : IsImage state b) where
   abbrev Stored : Type 0
   Stored = HoldsPlant a.epoch a.plant b
 
@@ -208,7 +209,7 @@ module _ {D : Type 0} (honest : D → Type 0) (state : D → DeviceState) (disk 
   runs_of = subst (λ (h : KeeperView D). IsWorking h.stage → h.work ≡ Checkpoint → (h.out ≤ h.run) × (h.run + h.stored.room ≤ head_len + h.image + h.segment)) same (λ works is. runs_by book order works is)
 
   pub frames_of : IsWorking k.stage → k.work ≡ Commit → (length k.actions ≤ 256) × (k.copying ≡ true → k.out + 1 ≤ k.run)
-  frames_of = subst (λ (h : KeeperView D). IsWorking h.stage → h.work ≡ Commit → (length h.actions ≤ 256) × (h.copying ≡ true → h.out + 1 ≤ h.run)) same (λ works is. frames_by book order works is)
+  frames_of = subst (λ (h : KeeperView D). IsWorking h.stage → h.work ≡ Commit → (length h.actions ≤ 256) × (h.copying ≡ true → h.out + 1 ≤ h.run)) same (λ works is. let f = frames_by book order works is in (omega (arith, f.0, asked_length book.actions.items), f.1))
 
   pub pieces_of : k.stage ≡ Body → k.work ≡ Checkpoint → k.out + 1 ≤ k.run
   pieces_of = subst (λ (h : KeeperView D). h.stage ≡ Body → h.work ≡ Checkpoint → h.out + 1 ≤ h.run) same (λ at is. piece_by book order at is)

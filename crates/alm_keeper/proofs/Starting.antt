@@ -1,7 +1,7 @@
 -- What is kept of a device as work is begun.
 use Rattle.std.proofs.Common.{◌≡◌, inl, ℕ, ◌+◌, ◌^◌, ◌≤◌, ◌<◌, Bool, true, false, List, [], ◌∷◌, ◌++◌, Result, Ok, Err, refl, sym, ◌∙◌, ap, subst, true≢false}
 use Rattle.std.proofs.lemmas.List.{append-nil}
-use Rattle.alm_types.specs.declared.action.Action.{Action}
+use Rattle.alm_codec.specs.declared.asked.Asked.{Asked}
 use Rattle.alm_codec.specs.Image.{image_text}
 use Rattle.alm_disk.specs.Device.{DeviceState, IsImage}
 use Rattle.alm_codec.specs.Versions.{closed_gate, newer}
@@ -62,7 +62,7 @@ works_at : (b : Book) (state : DeviceState) (stage : Stage) (copying : Bool) (wo
 works_at b state stage copying work at on is k =
     subst (λ (s : Stage). KeptBy s b.copying b.work b state) (sym at) (subst (λ (o : Bool). KeptBy stage o b.work b state) (sym on) (subst (λ (w : Work). KeptBy stage copying w b state) (sym is) k))
 
-pub begun_keeps : (result : Result Unit Refused) (actions : List Action) (old new : Book) (state : DeviceState) → Begins result actions old new → InOrder old → InOrder new → Keeps state old → Keeps state new
+pub begun_keeps : (result : Result Unit Refused) (actions : List Asked) (old new : Book) (state : DeviceState) → Begins result actions old new → InOrder old → InOrder new → Keeps state old → Keeps state new
 begun_keeps (Ok _) actions old new state b before i k = by_rest (at_rest old state before b.0 k)
   where
     works : IsWorking new.stage
@@ -91,7 +91,7 @@ begun_keeps (Err no.Working) actions old new state b before i k = subst (Keeps s
 begun_keeps (Err no.Gap) actions old new state b before i k = subst (Keeps state) (sym b) k
 begun_keeps (Err no.Exhausted) actions old new state b before i k = subst (Keeps state) (sym b) k
 
-pub begun_layout : (result : Result Unit Refused) (actions : List Action) (old new : Book) → Begins result actions old new → new.layout ≡ old.layout
+pub begun_layout : (result : Result Unit Refused) (actions : List Asked) (old new : Book) → Begins result actions old new → new.layout ≡ old.layout
 begun_layout (Ok _) actions old new b = ap (λ (a : Account). a.layout) b.4.account
 begun_layout (Err (no.NotAccepted place)) actions old new b = ap (λ (a : Account). a.layout) b.4.account
 begun_layout (Err no.Stopped) actions old new b = ap (λ (x : Book). x.layout) b

@@ -1,6 +1,5 @@
 -- The actions of a batch.
-use Rattle.std.specs.Prelude.{◌≡◌, Bool, true, ℕ, ◌+◌, List, [], ◌∷◌, ◌++◌, Option, Some, None, Result, Ok, Err}
-use Rattle.alm_types.specs.declared.action.Action.{Action}
+use Rattle.std.specs.Prelude.{All, ◌≡◌, Bool, true, ℕ, ◌+◌, List, [], ◌∷◌, ◌++◌, Option, Some, None, Result, Ok, Err}
 use Rattle.alm_types.specs.declared.entry.Entry.{Entry}
 use Rattle.alm_types.specs.declared.verdict.Verdict.{Verdict}
 use Rattle.alm_types.specs.declared.verdict.Verdict.TheVariants.{Accepted, Refused}
@@ -8,11 +7,13 @@ use Rattle.alm_types.specs.declared.refusal.Refusal.{Refusal}
 use Rattle.alm_model.specs.Plant.{Condensed}
 use Rattle.alm_model.specs.Accept.{refusal}
 use Rattle.alm_model.specs.Step.{step, run}
-use Rattle.alm_model.specs.Judging.{accepted_of, when_accepted}
+use Rattle.alm_model.specs.Judging.{when_accepted}
 use Rattle.alm_model.specs.Rules.{AreAdmitted}
 use Rattle.alm_codec.specs.Reading.{◌>>=◌}
 use Rattle.alm_codec.specs.declared.version.Version.{Version}
-use Rattle.alm_codec.specs.Versions.{bears}
+use Rattle.alm_codec.specs.Versions.{IsSaid, asker_in, bears}
+use Rattle.alm_codec.specs.declared.asked.Asked.{Asked}
+use Rattle.alm_codec.specs.Frames.{asked_actions}
 
 -- the plant, unless there is a reason against it
 abbrev pub or_place : Option Refusal → ℕ → Condensed → Result Condensed ℕ
@@ -28,19 +29,30 @@ abbrev pub tried_batch : Condensed → ℕ → List Entry → Result Condensed �
 tried_batch q place [] = Ok q
 tried_batch q place (e ∷ entries) = tried_one q place e.verdict >>= λ r. tried_batch r (place + 1) entries
 
+-- the accepted actions of these entries, each with the slot that asked, as frames of a version say it
+abbrev pub asked_if : Version → (slot : ℕ) → Verdict → List Asked
+asked_if version slot (Accepted a) = record { asker = asker_in version slot; action = a } ∷ []
+asked_if version slot (Refused why count) = []
+
+abbrev pub asked_of : Version → List Entry → List Asked
+asked_of version [] = []
+asked_of version (e ∷ entries) = asked_if version e.slot e.verdict ++ asked_of version entries
+
 -- what trying one entry comes to
-pub record Tries (old new : Condensed) (verdict : Verdict) (before after : List Action) : Type 0 where
-  pub tried : (place : ℕ) → tried_one old place verdict ≡ Ok new
-  pub actions : after ≡ before ++ when_accepted verdict
-  pub admitted : AreAdmitted old (when_accepted verdict)
-  pub plant : new ≡ run old (when_accepted verdict)
+pub record Tries (version : Version) (old new : Condensed) (entry : Entry) (before after : List Asked) : Type 0 where
+  pub tried : (place : ℕ) → tried_one old place entry.verdict ≡ Ok new
+  pub asked : after ≡ before ++ asked_if version entry.slot entry.verdict
+  pub said : All (IsSaid version) (asked_if version entry.slot entry.verdict)
+  pub admitted : AreAdmitted old (when_accepted entry.verdict)
+  pub plant : new ≡ run old (when_accepted entry.verdict)
 
 -- what trying all of them comes to
-pub record TriesAll (old new : Condensed) (entries : List Entry) (found : List Action) : Type 0 where
+pub record TriesAll (version : Version) (old new : Condensed) (entries : List Entry) (found : List Asked) : Type 0 where
   pub tried : tried_batch old 0 entries ≡ Ok new
-  pub actions : found ≡ accepted_of entries
-  pub admitted : AreAdmitted old found
-  pub plant : new ≡ run old found
+  pub asked : found ≡ asked_of version entries
+  pub said : All (IsSaid version) found
+  pub admitted : AreAdmitted old (asked_actions found)
+  pub plant : new ≡ run old (asked_actions found)
 
 -- whether an entry isn't accepted, or a version has its action
 abbrev pub bears_verdict : Version → Verdict → Bool

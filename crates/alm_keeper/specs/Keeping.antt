@@ -3,10 +3,10 @@ use Rattle.std.specs.Prelude.{◌≡◌, ◌⊎◌, ℕ, ◌+◌, ◌-◌, ◌*�
 use Rattle.alm_keeper.specs.Keeper.{Standing, KeeperView, piece, written_after}
 use Rattle.alm_keeper.specs.Stages.{During, next_stage, first_stage, sent_stage, rest_stage, rest_work, phase_of}
 use Rattle.alm_store.specs.Advancing.{IsResting}
-use Rattle.alm_types.specs.declared.action.Action.{Action}
+use Rattle.alm_codec.specs.declared.asked.Asked.{Asked}
 use Rattle.alm_model.specs.Plant.{Condensed}
 use Rattle.alm_model.specs.Rules.{KeepsRules, AreAdmitted}
-use Rattle.alm_codec.specs.Frames.{IsFrame, frame_body}
+use Rattle.alm_codec.specs.Frames.{IsFrame, asked_actions, frame_body}
 use Rattle.alm_codec.specs.Versions.{closed_gate, newer}
 use Rattle.alm_codec.specs.Image.{IsOf, image_text}
 use Rattle.alm_segment.specs.Course.{frame_len}
@@ -27,7 +27,7 @@ use Rattle.alm_store.specs.declared.progress.Progress.TheVariants.{More, Done, F
 use Rattle.alm_keeper.specs.Piecewise.{Copy, run_text}
 use Rattle.alm_keeper.specs.Phases.{UnderWay, Rest, Shut, ShutSync, Pause, Frame, End, KeptIn}
 use Rattle.alm_keeper.specs.Phases.{WorkAdvances as AdvancesOn}
-use Rattle.alm_keeper.specs.Stand.{HoldsPlant, Ready, Account, end_of_half, TakesFrame, with_commit, turned_half}
+use Rattle.alm_keeper.specs.Stand.{HoldsPlant, Ready, Account, end_of_half, TakesAsked, with_commit, turned_half}
 use Rattle.alm_types.specs.Sizes.{most_actions, most_entries}
 
 -- the account of the device that the book holds
@@ -55,12 +55,12 @@ abbrev pub account_next : Book → Account
 account_next b = account_next_at b.stage b.work b
 
 -- a commit is begun
-pub record Committing (a : Account) (actions : List Action) (frame : List ℕ) (ahead : Condensed) : Type 0 where
-  pub spells : IsFrame a.epoch (a.plant.panel.count + 1) actions
-  pub admitted : AreAdmitted a.plant actions
-  pub takes : TakesFrame a actions
-  pub text : take (19 + 16 * length actions) frame ≡ frame_body a.version a.epoch (a.plant.panel.count + 1) actions
-  pub tried : ahead ≡ (with_commit a actions).plant
+pub record Committing (a : Account) (asked : List Asked) (frame : List ℕ) (ahead : Condensed) : Type 0 where
+  pub spells : IsFrame a.version a.epoch (a.plant.panel.count + 1) asked
+  pub admitted : AreAdmitted a.plant (asked_actions asked)
+  pub takes : TakesAsked a asked
+  pub text : take (19 + 16 * length asked) frame ≡ frame_body a.version a.epoch (a.plant.panel.count + 1) asked
+  pub tried : ahead ≡ (with_commit a asked).plant
 
 abbrev pub DoesWork : Work → Book → Type 0
 DoesWork Commit b = Committing (account b) b.actions.items b.frame.items b.ahead
@@ -126,10 +126,10 @@ pub record SameBeside (old new : Book) : Type 0 where
   pub written : new.written ≡ old.written
 
 -- what is left, by the result
-abbrev pub Begins : Result Unit Refused → List Action → (old new : Book) → Type 0
-Begins (Ok _) actions old new = IsResting (phase_of old.stage old.work) × (new.stage ≡ Body) × (new.work ≡ Commit) × (new.actions.items ≡ actions) × SameBeside old new
-Begins (Err (no.NotAccepted place)) actions old new = IsResting (phase_of old.stage old.work) × (new.stage ≡ Stopped) × (new.work ≡ Commit) × (new.actions.items ≡ []) × SameBeside old new
-Begins (Err why) actions old new = new ≡ old
+abbrev pub Begins : Result Unit Refused → List Asked → (old new : Book) → Type 0
+Begins (Ok _) asked old new = IsResting (phase_of old.stage old.work) × (new.stage ≡ Body) × (new.work ≡ Commit) × (new.actions.items ≡ asked) × SameBeside old new
+Begins (Err (no.NotAccepted place)) asked old new = IsResting (phase_of old.stage old.work) × (new.stage ≡ Stopped) × (new.work ≡ Commit) × (new.actions.items ≡ []) × SameBeside old new
+Begins (Err why) asked old new = new ≡ old
 
 -- a checkpoint is open: the stored plant is copied
 pub record OpensCheckpoint (old new : Book) : Type 0 where
@@ -194,17 +194,17 @@ IsBookAfter Body Checkpoint step old new = (step ≡ More) × (new ≡ sent_by (
 IsBookAfter stage work step old new = (step ≡ More) × (new ≡ record old { stage = next_stage stage })
 
 -- what is under way on the device, without an open checkpoint
-abbrev pub work_alone : Stage → List Action → UnderWay
-work_alone Idle actions = Rest
-work_alone stage actions = Frame None stage actions
+abbrev pub work_alone : Stage → List Asked → UnderWay
+work_alone Idle asked = Rest
+work_alone stage asked = Frame None stage asked
 
 -- .. and with one
-abbrev pub work_beside : Stage → Work → Copy → List Action → UnderWay
-work_beside Close work k actions = Shut k
-work_beside CloseSync work k actions = ShutSync k
-work_beside stage Commit k actions = Frame (Some k) stage actions
-work_beside Body Checkpoint k actions = Pause k
-work_beside stage Checkpoint k actions = End k stage
+abbrev pub work_beside : Stage → Work → Copy → List Asked → UnderWay
+work_beside Close work k asked = Shut k
+work_beside CloseSync work k asked = ShutSync k
+work_beside stage Commit k asked = Frame (Some k) stage asked
+work_beside Body Checkpoint k asked = Pause k
+work_beside stage Checkpoint k asked = End k stage
 
 -- the copy, of which `out` bytes went out
 abbrev pub at_out : Copy → ℕ → Copy
@@ -254,7 +254,7 @@ keeper_of disk b = record {
   image = image_size b.layout;
   segment = b.layout.segment;
   stored = standing_by (account b);
-  actions = b.actions.items;
+  actions = asked_actions b.actions.items;
   copying = b.copying;
   run = b.run;
   out = b.out;

@@ -1,13 +1,13 @@
 -- A keeper's device, by what is under way on it.
 use Rattle.std.specs.Prelude.{◌≡◌, ◌⊎◌, ℕ, ◌+◌, ◌≤◌, true, false, List, [], ◌∷◌, length, take, drop, Option, Some, None, Result, Ok, ◌==◌, if◌then◌else◌}
-use Rattle.alm_types.specs.declared.action.Action.{Action}
+use Rattle.alm_codec.specs.declared.asked.Asked.{Asked}
 use Rattle.alm_model.specs.Rules.{AreAdmitted}
 use Rattle.alm_codec.specs.declared.version.Version.{Version}
 use Rattle.alm_codec.specs.Versions.{closed_gate}
-use Rattle.alm_codec.specs.Frames.{IsFrame, frame_body}
+use Rattle.alm_codec.specs.Frames.{IsFrame, asked_actions, frame_body}
 use Rattle.alm_disk.specs.Device.{DeviceState, Writes, Syncs}
 use Rattle.alm_disk.specs.Device.{IsImage as IsLeft}
-use Rattle.alm_keeper.specs.Stand.{HoldsPlant, Ready, Account, other_at, TakesFrame, with_commit}
+use Rattle.alm_keeper.specs.Stand.{HoldsPlant, Ready, Account, other_at, TakesAsked, with_commit}
 use Rattle.alm_keeper.specs.Resting.{RestsBut, or_within, Kept}
 use Rattle.alm_keeper.specs.Stages.{During, next_stage}
 use Rattle.alm_keeper.specs.declared.stage.Stage.{Stage}
@@ -41,12 +41,12 @@ pub data UnderWay : Type 0 where
   -- it is open, and no call is under way
   Pause : Copy → UnderWay
   -- a commit, with or without an open checkpoint
-  Frame : Option Copy → Stage → List Action → UnderWay
+  Frame : Option Copy → Stage → List Asked → UnderWay
   -- the end of a checkpoint
   End : Copy → Stage → UnderWay
 
-abbrev pub Commits : Account → List Action → Type 0
-Commits a actions = IsFrame a.epoch (a.plant.panel.count + 1) actions × AreAdmitted a.plant actions × TakesFrame a actions
+abbrev pub Commits : Account → List Asked → Type 0
+Commits a asked = IsFrame a.version a.epoch (a.plant.panel.count + 1) asked × AreAdmitted a.plant (asked_actions asked) × TakesAsked a asked
 
 abbrev pub out_of : Option Copy → ℕ
 out_of None = 0
@@ -62,7 +62,7 @@ KeptIn Rest a state = Rested a state
 KeptIn (Shut k) a state = (a.other_open ≡ true) × IsCopy (with_other_shut a) k × (k.out ≡ 0) × Rested a state
 KeptIn (ShutSync k) a state = IsCopy (with_other_shut a) k × (k.out ≡ 0) × ClosesOther a state
 KeptIn (Pause k) a state = IsCopy a k × Paused a k state
-KeptIn (Frame other stage actions) a state = Commits a actions × Beside other a state × Kept (is_sent a (out_of other)) (Ready a) (Ready (with_commit a actions)) stage state a.gate (frame_body a.version a.epoch (a.plant.panel.count + 1) actions)
+KeptIn (Frame other stage asked) a state = Commits a asked × Beside other a state × Kept (is_sent a (out_of other)) (Ready a) (Ready (with_commit a asked)) stage state a.gate (frame_body a.version a.epoch (a.plant.panel.count + 1) asked)
 KeptIn (End k stage) a state = Kept (λ place. false) (Ready a) (Ready (turned_by a k)) stage state (other_at a) (run_text a k)
 
 -- the one call of a stage, for the gate at a place of a device of a version, and the text after it
@@ -81,7 +81,7 @@ MakesCall Rest a n result old new = ⊥
 MakesCall (Shut k) a n result old new = Writes (other_at a) (closed_gate a.layout.version ∷ []) result old new
 MakesCall (ShutSync k) a n result old new = Syncs result old new
 MakesCall (Pause k) a n result old new = (k.out + n ≤ length (run_text a k)) × Writes (other_at a + 1 + k.out) (take n (drop k.out (run_text a k))) result old new
-MakesCall (Frame other stage actions) a n result old new = StageCall a.layout.version stage a.gate (frame_body a.version a.epoch (a.plant.panel.count + 1) actions) result old new
+MakesCall (Frame other stage asked) a n result old new = StageCall a.layout.version stage a.gate (frame_body a.version a.epoch (a.plant.panel.count + 1) asked) result old new
 MakesCall (End k stage) a n result old new = StageCall a.layout.version stage (other_at a) (run_text a k) result old new
 
 -- what a crash leaves at any moment of it
@@ -90,13 +90,13 @@ DuringIn Rest a b = Ready a b
 DuringIn (Shut k) a b = HoldsPlant a.epoch a.plant b
 DuringIn (ShutSync k) a b = HoldsPlant a.epoch a.plant b
 DuringIn (Pause k) a b = Ready a b
-DuringIn (Frame other stage actions) a b = During (Ready a) (Ready (with_commit a actions)) stage b
+DuringIn (Frame other stage asked) a b = During (Ready a) (Ready (with_commit a asked)) stage b
 DuringIn (End k stage) a b = During (Ready a) (Ready (turned_by a k)) stage b
 
 -- after a commit's end
-abbrev pub without_pause : Option Copy → List Action → UnderWay
-without_pause None actions = Rest
-without_pause (Some k) actions = Pause (with_copied_frame k actions)
+abbrev pub without_pause : Option Copy → List Asked → UnderWay
+without_pause None asked = Rest
+without_pause (Some k) asked = Pause (with_copied_frame k asked)
 
 -- what is under way after the call was done, and the account
 abbrev pub next_work : UnderWay → Account → ℕ → UnderWay
@@ -104,14 +104,14 @@ next_work Rest a n = Rest
 next_work (Shut k) a n = ShutSync k
 next_work (ShutSync k) a n = Pause k
 next_work (Pause k) a n = if k.out + n == length (run_text a k) then End k BodySync else Pause (with_sent_bytes k n)
-next_work (Frame other GateSync actions) a n = without_pause other actions
-next_work (Frame other stage actions) a n = Frame other (next_stage stage) actions
+next_work (Frame other GateSync asked) a n = without_pause other asked
+next_work (Frame other stage asked) a n = Frame other (next_stage stage) asked
 next_work (End k GateSync) a n = Rest
 next_work (End k stage) a n = End k (next_stage stage)
 
 abbrev pub next_account : UnderWay → Account → Account
 next_account (ShutSync k) a = with_other_shut a
-next_account (Frame other GateSync actions) a = with_commit a actions
+next_account (Frame other GateSync asked) a = with_commit a asked
 next_account (End k GateSync) a = turned_by a k
 next_account work a = a
 

@@ -1,6 +1,6 @@
 -- A checkpoint that goes out in pieces between commits.
 use Rattle.std.specs.Prelude.{◌≡◌, ℕ, ◌+◌, ◌^◌, ◌<◌, ◌≤◌, Bool, true, false, List, [], ◌∷◌, ◌++◌, length, take}
-use Rattle.alm_types.specs.declared.action.Action.{Action}
+use Rattle.alm_codec.specs.declared.asked.Asked.{Asked}
 use Rattle.alm_model.specs.Plant.{Condensed}
 use Rattle.alm_model.specs.Step.{run}
 use Rattle.alm_model.specs.Rules.{AreAdmitted}
@@ -74,8 +74,8 @@ abbrev pub turned_by : Account → Copy → Account
 turned_by a k = record a { half = other a.half; other_open = true; version = newer a.version; epoch = a.epoch + 1; gate = other_at a + 1 + length (open_text a k) }
 
 -- one frame more
-abbrev pub with_copied_frame : Copy → List Action → Copy
-with_copied_frame k actions = record k { since = k.since ++ written actions ∷ [] }
+abbrev pub with_copied_frame : Copy → List Asked → Copy
+with_copied_frame k asked = record k { since = k.since ++ written asked ∷ [] }
 
 -- n bytes more went out
 abbrev pub with_sent_bytes : Copy → ℕ → Copy

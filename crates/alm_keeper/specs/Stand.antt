@@ -1,9 +1,11 @@
 -- What a keeper knows of its device.
 use Rattle.std.specs.Prelude.{◌≡◌, ℕ, ◌+◌, ◌≤◌, Bool, true, false, List, ◌∷◌, length}
 use Rattle.alm_types.specs.declared.action.Action.{Action}
+use Rattle.alm_codec.specs.declared.asked.Asked.{Asked}
 use Rattle.alm_model.specs.Plant.{Condensed}
 use Rattle.alm_model.specs.Step.{run}
 use Rattle.alm_codec.specs.declared.version.Version.{Version}
+use Rattle.alm_codec.specs.Frames.{asked_actions}
 use Rattle.alm_codec.specs.Versions.{AreBorne, is_open, newer}
 use Rattle.alm_segment.specs.Course.{frame_len}
 use Rattle.alm_checkpoint.specs.declared.layout.Layout.{Layout}
@@ -67,9 +69,12 @@ FitsFrame a n = a.gate + frame_len n + 1 ≤ end_of_half a
 abbrev pub TakesFrame : Account → List Action → Type 0
 TakesFrame a actions = FitsFrame a (length actions) × AreBorne a.version actions
 
+abbrev pub TakesAsked : Account → List Asked → Type 0
+TakesAsked a asked = FitsFrame a (length asked) × AreBorne a.version (asked_actions asked)
+
 -- after a commit, after a checkpoint
-abbrev pub with_commit : Account → List Action → Account
-with_commit a actions = record a { gate = a.gate + frame_len (length actions); plant = run a.plant actions }
+abbrev pub with_commit : Account → List Asked → Account
+with_commit a asked = record a { gate = a.gate + frame_len (length asked); plant = run a.plant (asked_actions asked) }
 
 -- .. whose run has this length
 abbrev pub turned_half : Account → (run : ℕ) → Account

@@ -5,6 +5,7 @@ ghost use Rattle.alm_keeper.specs.Stages.{IsWorking, first_stage};
 ghost use Rattle.alm_checkpoint.specs.Layouts.{half_len};
 ghost use Rattle.alm_segment.specs.Course.{frame_len};
 ghost use Rattle.alm_model.specs.Judging.{accepted_of};
+ghost use Rattle.alm_keeper.specs.Batch.{asked_of};
 ghost use Rattle.alm_keeper.specs.Stand.{other_at, end_of_half, FitsFrame, TakesFrame, with_commit};
 ghost use Rattle.alm_keeper.specs.declared.stage.Stage.{Stage};
 ghost use Rattle.alm_keeper.specs.declared.stage.Work.{Work};
@@ -17,13 +18,13 @@ use crate::bearing::bears_all;
 use crate::frame::{append_frame, write_frame};
 use crate::half_text::write_half;
 use crate::stage::{Stage, Work, phase_of};
-use crate::trying::try_all;
+use crate::trying::{apply_asked, try_all};
 use alm_checkpoint::{HEAD_LEN, HEADER_LEN, Half, Layout};
-use alm_codec::Version;
-use alm_model::{Alarms, accepted_in, apply_all};
+use alm_codec::{Asked, Version};
+use alm_model::{Alarms, accepted_in};
 use alm_plant::Plant;
 use alm_store::{Phase, Progress, Refused};
-use alm_types::{Action, Batch};
+use alm_types::Batch;
 
 /// The longest piece of a run.
 const MOST: usize = 65_536;
@@ -46,7 +47,8 @@ pub struct Book {
     pub stored: Plant,
     /// The plant with the actions that are begun.
     pub ahead: Plant,
-    pub actions: Vec<Action>,
+    /// The actions that are begun, each with who asked, as the half says it.
+    pub actions: Vec<Asked>,
     /// The body of a frame.
     pub frame: Vec<u8>,
     /// A checkpoint is open.
@@ -133,7 +135,7 @@ impl Book {
         requires in_order { InOrder self.old }
         ensures answer { result ≡
             begin_answer (phase_of self.old.stage self.old.work) self.old.stored batch.now }
-        ensures begins { Begins result (accepted_of batch.now.entries) self.old self.new }
+        ensures begins { Begins result (asked_of self.old.version batch.now.entries) self.old self.new }
         ensures in_order { InOrder self.new }
     {
         match phase_of(self.stage, self.work) {
@@ -145,7 +147,12 @@ impl Book {
             return Err(Refused::Gap);
         }
         self.actions.clear();
-        if let Some(place) = try_all(&mut self.ahead, batch.entries(), &mut self.actions) {
+        if let Some(place) = try_all(
+            &mut self.ahead,
+            batch.entries(),
+            &mut self.actions,
+            self.version,
+        ) {
             self.actions.clear();
             self.work = Work::Commit;
             self.stage = Stage::Stopped;
@@ -173,7 +180,7 @@ impl Book {
             record self.old { gate = self.new.gate; stored = self.new.stored; written = 0 } }
     {
         self.gate += self.frame_len() as u64;
-        apply_all(&mut self.stored, &self.actions);
+        apply_asked(&mut self.stored, &self.actions);
         self.written = 0;
     }
 

@@ -3,7 +3,7 @@
 //! `bench/segment/run.sh` compares it with a loop in C that reads the same fields.
 
 use crate::report::report;
-use alm_codec::{OPEN_GATE, Version, write_frame_body};
+use alm_codec::{Asked, Asker, OPEN_GATE, Version, write_frame_body};
 use alm_segment::Scanner;
 use alm_types::{Action, AlarmId, Reading};
 use anyhow::{Result, anyhow};
@@ -23,7 +23,9 @@ fn actions(alloc: Global) -> Result<Vec<Action>> {
     let value = Reading::new(1).ok_or_else(|| anyhow!("reading"))?;
     let mut actions = Vec::with_capacity(alloc, 256)?;
     for number in 0..256u32 {
-        actions.push(Action::Value(AlarmId(number), value))?;
+        let action = Action::Value(AlarmId(number), value);
+        let asker = Asker::nobody();
+        actions.push(Asked { asker, action })?;
     }
     Ok(actions)
 }

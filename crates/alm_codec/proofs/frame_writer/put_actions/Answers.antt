@@ -10,8 +10,8 @@ loop-action-init c = record { end = omega arith; text = Wrote-nothing c.args.out
 pub loop-action-preserved : goal.loop-action-preserved
 loop-action-preserved c =
     record {
-      end = omega (arith, c.put_action-end.ensures.end, c.loop-action.invariant.end);
-      text = subst (Wrote c.args.out.now c.put_action-end.new.out c.args.at c.put_action-end.result) (text_more c.args.actions.now c.loop-action.action-index _ c.loop-action-test.true c.action-item.is)
-          (Wrote-then _ _ _ _ _ _ _ _ c.loop-action.invariant.text c.put_action-end.ensures.text (omega arith));
-      limits = limits_more c.args.actions.now c.loop-action.action-index _ c.loop-action-test.true c.action-item.is c.loop-action.invariant.limits c.put_action-end.ensures.limits;
+      end = omega (arith, c.put_asked-end.ensures.end, c.loop-action.invariant.end);
+      text = subst (Wrote c.args.out.now c.put_asked-end.new.out c.args.at c.put_asked-end.result) (text_more c.args.version c.args.actions.now c.loop-action.action-index _ c.loop-action-test.true c.action-item.is)
+          (Wrote-then _ _ _ _ _ _ _ _ c.loop-action.invariant.text c.put_asked-end.ensures.text (omega arith));
+      limits = limits_more c.args.actions.now c.loop-action.action-index _ c.loop-action-test.true c.action-item.is c.loop-action.invariant.limits c.put_asked-end.ensures.limits;
     }

@@ -1,6 +1,5 @@
 use Rattle.std.proofs.Common.{◌≡◌, ◌+◌, ◌*◌, ◌∷◌, [], subst, length, List, ℕ, arith}
-use Rattle.std.specs.List.{flat_map}
-use Rattle.alm_codec.specs.Actions.{action_text}
+use Rattle.alm_codec.specs.Frames.{texts_of}
 use Rattle.alm_codec.specs.Versions.{closed_gate}
 use Rattle.alm_codec.specs.Writing.{Wrote}
 use Rattle.alm_codec.proofs.FrameWriting.{body_is, until}
@@ -12,7 +11,7 @@ returns-clause-text c =
     let list = c.args.actions.now in
     let out : List ℕ = c.args.out.now in
     let end : c.put_actions-end.result ≡ 18 + 16 * length list = omega (arith, c.put_actions-end.ensures.end) in
-    let texts : Wrote out c.put_actions-end.new.out 18 (18 + 16 * length list) (flat_map action_text list) = until _ _ 18 c.put_actions-end.result _ _ end c.put_actions-end.ensures.text in
+    let texts : Wrote out c.put_actions-end.new.out 18 (18 + 16 * length list) (texts_of version list) = until _ _ 18 c.put_actions-end.result _ _ end c.put_actions-end.ensures.text in
     let gate : Wrote c.put_sum.new.out c.put.new.out (18 + 16 * length list) (18 + 16 * length list + 1) (closed_gate version ∷ []) =
     until _ _ _ c.put.result _ _ (omega (arith, c.put.ensures.end, end)) (subst (λ (n : ℕ). Wrote c.put_sum.new.out c.put.new.out n c.put.result (closed_gate version ∷ [])) end
     (subst (λ (g : ℕ). Wrote c.put_sum.new.out c.put.new.out c.put_actions-end.result c.put.result (g ∷ [])) c.closed_gate.ensures c.put.ensures.text)) in
