@@ -1,5 +1,6 @@
 """A device of version 03, spelled by docs/develop/FORMAT.md alone from one of version 02."""
 import struct
+from typing import Sequence
 
 HEADER, HEAD, FRAME_HEAD, ACTION = 23, 25, 19, 16
 OPEN, CLOSED, MARK_03 = 0xA5, 0x5A, 253
@@ -36,12 +37,15 @@ class SummedDevice:
             at = end
         return found
 
-    def spell_03(self) -> None:
-        """Makes of a device of version 02 with half 0 alone one of version 03."""
-        gate = self.begins
+    def spell_03(self, slots: Sequence[int] = ()) -> None:
+        """Makes of a device of version 02 with half 0 alone one of version 03. Its actions were asked for by these slots, one
+        after the other, or that isn't said."""
+        gate, asked = self.begins, iter(slots)
         for at, gate in self.frames(False):
             epoch, number, count = struct.unpack(">8sQH", self.bytes[at + 1 : at + FRAME_HEAD])
             head = epoch + struct.pack(">IH", number % 2**32, 255 * count)
+            for action in range(at + FRAME_HEAD, gate, ACTION):
+                self.bytes[action + 1] = next(asked, -1) + 1
             body = self.bytes[at + FRAME_HEAD : gate]
             self.bytes[at + 1 : at + FRAME_HEAD] = head + struct.pack(">I", checksum(head + body))
         self.bytes[gate] = self.bytes[self.second] = CLOSED

@@ -1,6 +1,6 @@
 """An accepted action, and how it stands in a line."""
-from dataclasses import dataclass
-from typing import Callable
+from dataclasses import dataclass, field
+from typing import Callable, Optional
 
 # The words of actions whose line has an alarm alone; an alarm and a number; an alarm, and ON or OFF.
 OF_ALARM = ("ACK", "RESET", "UNSHELVE")
@@ -24,12 +24,13 @@ NUMBERED = {"VAL": "value {}", "SHELVE": "shelved for {} s", "PRIO": "given prio
 @dataclass(frozen=True)
 class Action:
     """An accepted action, by its number among all. Of CLOCK the argument is the moment, of a switch 1 for ON and 0 for
-    OFF; the alarm is 0 where there is none, and so is the argument."""
+    OFF; the alarm is 0 where there is none, and so is the argument. Where a device says it, the slot that asked."""
 
     number: int
     word: str
     alarm: int
     argument: int
+    slot: Optional[int] = field(default=None, compare=False)
 
     def request(self, tags: list[str]) -> str:
         """The action in the words of a request, with the alarm's tag."""

@@ -72,9 +72,9 @@ class Frame:
 
 
 def action_of(text: bytes, number: int) -> Action:
-    """The action of this number in its text."""
-    kind, alarm, argument = struct.unpack(">B3xIq", text)
-    return Action(number, ACTIONS[kind], alarm, argument)
+    """The action of this number in its text, with the slot that asked if the text says it."""
+    kind, asker, alarm, argument = struct.unpack(">BB2xIq", text)
+    return Action(number, ACTIONS[kind], alarm, argument, asker - 1 if asker else None)
 
 
 class DeviceFile:

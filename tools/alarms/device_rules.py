@@ -44,6 +44,8 @@ ACTIONS = {
 }
 # The last kind of action in a half, by its mark.
 LAST_KIND = {0: 8, 2: 10, 253: 10}
+# How a text says which slot asked, by the mark of its half: by its number and one. 0 says nothing.
+LAST_ASKER = {0: 0, 2: 0, 253: 18}
 # The argument of each kind, from the least to the greatest.
 VALUES, NUMBERS, SWITCH = (-READING_LIMIT, READING_LIMIT), (0, 2**32 - 1), (0, 1)
 ARGUMENTS = {1: (0, MOMENTS - 1), 2: VALUES, 5: NUMBERS, 7: SWITCH, 8: SWITCH, 9: NUMBERS, 10: VALUES}
@@ -88,11 +90,12 @@ def header_fault(header: bytes, size: int) -> Optional[Broken]:
 
 def text_fault(text: bytes, mark: int) -> Optional[Broken]:
     """Whether 16 bytes are no text of an action in a half of this mark."""
-    kind, zeros, alarm, argument = struct.unpack(">B3sIq", text)
+    kind, asker, zeros, alarm, argument = struct.unpack(">BBHIq", text)
     least, greatest = ARGUMENTS.get(kind, (0, 0))
     is_text = (
         1 <= kind <= LAST_KIND.get(mark, 0)
-        and not any(zeros)
+        and asker <= LAST_ASKER.get(mark, 0)
+        and not zeros
         and (kind != 1 or alarm == 0)
         and least <= argument <= greatest
     )

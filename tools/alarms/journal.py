@@ -13,10 +13,10 @@ asks ten times a second how many actions the server shows, and prints none above
 or --slot K. Without --port it prints what stands in the file, and says so.
 
 It reads the file, since the server remembers no action of before its start (SINCE), and no line tells how full the
-journal is. Which slot asked isn't stored. The device has the actions since the checkpoint before the last one, or since
-the last one while a checkpoint is made. Actions that it no longer has are named in a line `(actions 5 to 9: no longer
-in the file)`. Where another file is put in the device's place, or it is formatted again, a line says so, and that
-file's actions follow from its first one on.
+journal is. A device of version 03 says which slot asked, and a line here ends with it. The device has the actions since
+the checkpoint before the last one, or since the last one while a checkpoint is made. Actions that it no longer has are
+named in a line `(actions 5 to 9: no longer in the file)`. Where another file is put in the device's place, or it is
+formatted again, a line says so, and that file's actions follow from its first one on.
 """
 import argparse
 import dataclasses
@@ -167,10 +167,11 @@ class Trail:
     def line(self, step: Step) -> str:
         """A line of an action."""
         action = step.action
+        asked = "" if step.slot is None else f"  (slot {step.slot})"
         if self.table is None:
-            return f"{action.number} {action.request(self.tags)}"
+            return f"{action.number} {action.request(self.tags)}{asked}"
         tag = "-" if action.word == "CLOCK" else self.tags[action.alarm]
-        said = f"{tag:14}  {in_words(action):32}{self.texts.get(tag, '')}"
+        said = f"{tag:14}  {in_words(action):32}{self.texts.get(tag, '')}{asked}"
         return f"{date(step.moment)}  {action.number:>8}  {said}".rstrip()
 
 

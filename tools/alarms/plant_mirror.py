@@ -180,7 +180,7 @@ class Mirror:
         """Does the next action, which has to be one that the plant admits."""
         if not is_admitted(self.plant, action):
             raise not_admitted(self.device, self.head, frame, action)
-        return Step(action, *self.apply(action))
+        return Step(action, *self.apply(action), action.slot)
 
     def apply(self, action: Action) -> tuple[int, list[Change], list[FloodChange]]:
         changes, floods = self.plant.apply(action)

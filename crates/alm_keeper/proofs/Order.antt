@@ -139,6 +139,36 @@ rests b idle i = by_stage b.stage b.work idle i.does
     by_stage GateSync Commit idle d = absurd idle
     by_stage GateSync Checkpoint idle d = absurd idle
 
+-- a commit that is begun leaves an open checkpoint as it is
+module _ (b : Book) (i : InOrder b) (resting : IsResting (phase_of b.stage b.work)) where
+  paused_at : (s : Stage) (w : Work) → b.stage ≡ s → b.work ≡ w → IsResting (phase_of s w) → b.copying ≡ true → OpenedBook Body b × (b.work ≡ Checkpoint)
+  paused_at Idle w at is r on = absurd (true≢false (sym on ∙ (subst (λ (s : Stage). Does s b.work b) at i.does).0))
+  paused_at Body Checkpoint at is r on = (subst (λ (s : Stage). OpenedBook s b) at (opened b i (subst IsWorking (sym at) tt) on), is)
+  paused_at Body Commit at is r on = absurd r
+  paused_at Stopped w at is r on = absurd r
+  paused_at Close Commit at is r on = absurd r
+  paused_at Close Checkpoint at is r on = absurd r
+  paused_at CloseSync Commit at is r on = absurd r
+  paused_at CloseSync Checkpoint at is r on = absurd r
+  paused_at BodySync Commit at is r on = absurd r
+  paused_at BodySync Checkpoint at is r on = absurd r
+  paused_at Gate Commit at is r on = absurd r
+  paused_at Gate Checkpoint at is r on = absurd r
+  paused_at GateSync Commit at is r on = absurd r
+  paused_at GateSync Checkpoint at is r on = absurd r
+
+  pub still_copying : (new : Book) → new ≡ record b { stage = Body; work = Commit; ahead = new.ahead; actions = new.actions; frame = new.frame } → IsCopying new.copying Body new
+  still_copying new same = subst (λ (x : Book). IsCopying x.copying Body x) (sym same) (by_copying b.copying refl)
+    where
+      begun : Book
+      begun = record b { stage = Body; work = Commit; ahead = new.ahead; actions = new.actions; frame = new.frame }
+
+      by_copying : (o : Bool) → b.copying ≡ o → IsCopying o Body begun
+      by_copying false off = tt
+      by_copying true on =
+          let p = paused_at b.stage b.work refl refl resting on in
+          record { more = p.0.more; least = p.0.least; room = p.0.room; within = p.0.within; sent = subst (λ (w : Work). HasSent Body w b.out b.run) p.1 p.0.sent }
+
 -- how long the image is
 pub image_size_is : (b : Book) → InOrder b → length (image_text b.stored) ≡ image_size b.layout
 image_size_is b i = image_length b.stored i.rules ∙ (λ j. image_len (i.sizes.by_rows j) (i.sizes.by_areas j))

@@ -1,5 +1,5 @@
 -- Entries are tried one after the other.
-use Rattle.std.proofs.Common.{All, ◌≡◌, ℕ, ◌+◌, ◌<◌, ◌≤◌, List, [], ◌∷◌, ◌++◌, length, drop, get_or, Option, Result, Ok, Err, refl, sym, ◌∙◌, ap, subst, append_assoc, arith, length-append}
+use Rattle.std.proofs.Common.{All, take, ◌*◌, ◌≡◌, ℕ, ◌+◌, ◌<◌, ◌≤◌, List, [], ◌∷◌, ◌++◌, length, drop, get_or, Option, Result, Ok, Err, refl, sym, ◌∙◌, ap, subst, append_assoc, arith, length-append}
 use Rattle.std.proofs.lemmas.List.{drop_more, map-append}
 use Rattle.std.proofs.lemmas.List.Elements.{All-append}
 use Rattle.alm_types.specs.declared.action.Action.{Action}
@@ -15,9 +15,11 @@ use Rattle.alm_model.specs.Rules.{AllAdmitted}
 use Rattle.alm_model.specs.Judging.{when_accepted, accepted_of}
 use Rattle.alm_codec.specs.declared.asked.Asked.{Asked}
 use Rattle.alm_codec.specs.declared.version.Version.{Version}
-use Rattle.alm_codec.specs.Frames.{asked_actions}
-use Rattle.alm_codec.specs.Versions.{IsSaid}
-use Rattle.alm_keeper.specs.Batch.{asked_if, asked_of, or_place, tried_one, tried_batch, Tries}
+use Rattle.alm_codec.specs.Frames.{IsFrame, asked_actions, frame_body}
+use Rattle.alm_codec.specs.Versions.{AreBorne, IsSaid}
+use Rattle.alm_keeper.specs.Batch.{asked_if, asked_of, or_place, tried_one, tried_batch, Tries, TriesAll}
+use Rattle.alm_keeper.specs.Keeping.{Committing}
+use Rattle.alm_keeper.specs.Stand.{Account, TakesFrame}
 use Rattle.alm_model.proofs.Runs.{admitted_join, run_append}
 use Rattle.alm_segment.proofs.Pushed.{asked_length}
 
@@ -86,3 +88,18 @@ tried_first q place (Refused why count) entries others p = others q p
 pub tried_admitted : (q : Condensed) (place : ℕ) (entries : List Entry) → AllAdmitted q (accepted_of entries) → tried_batch q place entries ≡ Ok (run q (accepted_of entries))
 tried_admitted q place [] a = refl
 tried_admitted q place (e ∷ entries) a = tried_first q place e.verdict entries (λ r p. tried_admitted r (place + 1) entries p) a
+
+-- ---- a commit that is begun
+
+-- as its batch was tried on what is stored
+pub committing : (a : Account) (entries : List Entry) (asked : List Asked) (frame : List ℕ) (ahead : Condensed) → TriesAll a.version a.plant ahead entries asked → TakesFrame a (accepted_of entries)
+    → (All (IsSaid a.version) asked → IsFrame a.version a.epoch (a.plant.panel.count + 1) asked) → take (19 + 16 * length asked) frame ≡ frame_body a.version a.epoch (a.plant.panel.count + 1) asked → Committing a asked frame ahead
+committing a entries asked frame ahead t takes spells text =
+    let actions : asked_actions asked ≡ accepted_of entries = ap asked_actions t.asked ∙ asked_accepted a.version entries in
+    record {
+      spells = spells t.said;
+      admitted = t.admitted;
+      takes = (omega (arith, takes.0, ap length actions, asked_length asked), subst (AreBorne a.version) (sym actions) takes.1);
+      text = text;
+      tried = t.plant;
+    }

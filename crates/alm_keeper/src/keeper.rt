@@ -84,6 +84,7 @@ impl<D: Disk + Drop> Keeper<D> {
     /// Refused, in this order: if the keeper is stopped; if a commit is under way, or a checkpoint that isn't paused; if the
     /// batch's first number isn't the next one. Else refused at the first action that isn't admitted at its turn, and that stops
     /// the keeper.
+    #[tactic(auto, using(crate::proofs::Seen::begins_seen))]
     pub fn begin(&mut self, batch: &Batch) -> Result<(), Refused>
         requires some { 1 ≤ length (accepted_of batch.now.entries) }
         requires takes { HasRoomFor self.old.stored (accepted_of batch.now.entries) }

@@ -1,6 +1,6 @@
-use Rattle.std.proofs.Common.{◌≡◌, ◌+◌, ◌∷◌, ◌∙◌, List, drop, drop-cons, add-one, suc, ap, sym, subst}
+use Rattle.std.proofs.Common.{◌≡◌, ◌+◌, ◌∷◌, ◌∙◌, List, drop, drop-cons, add-one, ap, sym, subst}
 use Rattle.alm_model.specs.Rules.{AllAdmitted}
-use Rattle.alm_model.specs.Step.{run, step}
+use Rattle.alm_model.specs.Step.{run}
 use Rattle.alm_codec.specs.declared.asked.Asked.{Asked}
 use Rattle.alm_codec.specs.Frames.{asked_actions}
 use Rattle.alm_keeper.proofs.trying.apply_asked.Goals as goal

@@ -1,4 +1,4 @@
-use Rattle.std.proofs.Common.{◌≡◌, take, drop}
+use Rattle.std.proofs.Common.{◌≡◌, drop}
 use Rattle.alm_model.specs.Rules.{AllAdmitted}
 use Rattle.alm_model.specs.Step.{run}
 use Rattle.alm_codec.specs.Frames.{asked_actions}
