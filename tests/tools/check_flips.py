@@ -7,7 +7,7 @@ from typing import Optional
 
 from lib.tools import Yard
 
-from alarms.client import CLOCK, Client
+from alarms.client import CLOCK, FEED, Client
 from alarms import judging
 from alarms.judging import Reading, read_device, read_once
 from lib.places import DOCS
@@ -47,10 +47,21 @@ def example(yard: Yard, _step: int) -> str:
     done = judge_rows(yard, content_of(device), earlier)
     check(done == 14, "the page's example has", done, "rows")
     summed = SummedDevice(device)
-    summed.spell_03()
-    newer = judge_rows(yard, bytes(summed.bytes), page.partition("14510: 5a\n")[2])
-    check(newer == 10, "the page's example of version 03 has", newer, "rows")
+    summed.spell_03((CLOCK, FEED))
+    listing, _, rows = page.partition("## Version 03\n")[2].partition("14510: 5a\n")
+    judge_listing(bytes(summed.bytes), listing)
+    newer = judge_rows(yard, bytes(summed.bytes), rows)
+    check(newer == 11, "the page's example of version 03 has", newer, "rows")
     return f"{done + newer} rows of the page"
+
+
+def judge_listing(device: bytes, listing: str) -> None:
+    """Holds the bytes of a device against those that the page lists."""
+    lines = re.findall(r"^ *(\d+): ([0-9a-f ]+)$", listing, re.MULTILINE)
+    check(len(lines) == 5, "the page lists", len(lines), "places of version 03")
+    for place, digits in lines:
+        listed, at = bytes.fromhex(digits), int(place)
+        check(device[at : at + len(listed)] == listed, "at", at, "the device has", device[at : at + len(listed)].hex(" "))
 
 
 def judge_rows(yard: Yard, before: bytes, table: str) -> int:

@@ -13,6 +13,7 @@ from alarms.device_file import DeviceFile
 from lib.places import EXAMPLES
 from lib.program import TESTS, check
 from lib.server import Server
+from lib.summed_device import SummedDevice
 from alarms.table_file import device_size, load_table
 from lib.tools import Yard, await_said, await_true, start, stop, tool, toml
 
@@ -102,6 +103,28 @@ def halves(yard: Yard) -> str:
     check(run.stdout == "" and f"the device has {LONG} actions" in run.stderr, run.stdout, run.stderr)
     held_up(yard, device)
     return "both halves"
+
+
+def asked(yard: Yard) -> str:
+    """A device of version 03 says which slot asked, across a checkpoint too; the trail is that of the lines."""
+    device = yard.format("asked.device", PLANT)
+    fresh = SummedDevice(device)
+    fresh.spell_03()
+    fresh.write(device)
+    asked_for = [(17, "CLOCK 1000"), (16, "VAL 0 800"), (15, "ACK 0"), (0, "SHELVE 0 60"), (7, "UNSHELVE 0")]
+    asked_for += [(17, f"CLOCK {moment}") for moment in range(1001, 1001 + LONG)] + [(3, "OOS 2 ON"), (16, "VAL 0 1")]
+    lines = "".join(f"{slot} {number} {words}\n" for number, (slot, words) in enumerate(asked_for, 1))
+    replies = yard.run("desk", device, lines=lines).splitlines()
+    check(all(" OK " in reply for reply in replies), "not each line was accepted:", replies[:8], replies[-2:])
+    tags = ("TI-101", "PI-102", "XS-201", "LI-202")
+    wanted = []
+    for number, (slot, words) in enumerate(asked_for, 1):
+        word, *fields = words.split()
+        named = fields if word == "CLOCK" else [tags[int(fields[0])], *fields[1:]]
+        wanted.append(" ".join([str(number), word, *named]) + f"  (slot {slot})")
+    run = tool("alm_journal", device, "--from", len(asked_for) - 60)
+    check(run.stdout.splitlines() == wanted[-61:], "the trail is", run.stdout[-300:], run.stderr)
+    return "who asked"
 
 
 def held_up(yard: Yard, device: str) -> None:

@@ -145,6 +145,7 @@ CHECKS: dict[str, Callable[[Yard, int], str]] = {
     "journal": lambda yard, step: check_journal.journal(yard, 3000 // step),
     "reply": lambda yard, _: check_journal.not_before_its_reply(yard),
     "halves": lambda yard, _: check_journal.halves(yard),
+    "asked": lambda yard, _: check_journal.asked(yard),
     "replaced": lambda yard, _: check_journal.replaced(yard),
     "power": lambda yard, step: power_cut(yard, 50 // step),
     "csv": lambda yard, _: check_tables.csv(yard),

@@ -80,13 +80,7 @@ fn put_sum(out: &mut [u8], version: Version, actions: usize)
 }
 
 /// Writes a frame's body in a version, without its gate: the next gate is closed.
-pub fn write_frame_body(
-    epoch: u64,
-    first: u64,
-    actions: &[Asked],
-    out: &mut [u8],
-    version: Version,
-)
+pub fn write_frame_body(epoch: u64, first: u64, actions: &[Asked], out: &mut [u8], version: Version)
     requires some { 1 ≤ length actions.now }
     requires few { length actions.now ≤ most_entries }
     requires room { 19 + 16 * length actions.now ≤ length out.old }

@@ -33,7 +33,11 @@ fn asked(slot: u8, action: Action, version: Version) -> Result<Asked, Fail> {
 fn frames_are_written_and_read(rt: HostRuntime) -> Result<(), Fail> {
     let mut actions = Vec::with_capacity(rt.alloc(), MOST_ENTRIES)?;
     let mut out = [9; 36];
-    let clock = asked(17, Action::Clock(Moment::new(1000).ok_or("moment")?), Version::V02)?;
+    let clock = asked(
+        17,
+        Action::Clock(Moment::new(1000).ok_or("moment")?),
+        Version::V02,
+    )?;
     write_frame_body(1, 1, &[clock], &mut out, Version::V02);
     assert!(rt; out[..35] == CLOCK_FRAME[..] && out[35] == 9);
     assert_eq!(rt;
@@ -205,9 +209,8 @@ fn the_longest_frame_of_version_03(rt: HostRuntime) -> Result<(), Fail> {
 
 /// A frame of version 03 with CLOCK 1000 of slot 17 and ACK 7 of slot 15.
 const ASKED_FRAME: [u8; 51] = [
-    0, 0, 0, 0, 0, 0, 0, 1, 0, 0, 0, 1, 1, 254, 134, 194, 189,
-    199, 1, 18, 0, 0, 0, 0, 0, 0, 0, 0, 0, 0, 0, 0, 3, 232,
-    3, 16, 0, 0, 0, 0, 0, 7, 0, 0, 0, 0, 0, 0, 0, 0, 90,
+    0, 0, 0, 0, 0, 0, 0, 1, 0, 0, 0, 1, 1, 254, 134, 194, 189, 199, 1, 18, 0, 0, 0, 0, 0, 0, 0, 0,
+    0, 0, 0, 0, 3, 232, 3, 16, 0, 0, 0, 0, 0, 7, 0, 0, 0, 0, 0, 0, 0, 0, 90,
 ];
 
 #[test]

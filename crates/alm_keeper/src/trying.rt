@@ -12,12 +12,7 @@ use alm_plant::Plant;
 use alm_types::{Entry, Verdict};
 
 /// Does the action of an entry, if it is admitted.
-fn try_one(
-    plant: &mut Plant,
-    entry: &Entry,
-    actions: &mut Vec<Asked>,
-    version: Version,
-) -> bool
+fn try_one(plant: &mut Plant, entry: &Entry, actions: &mut Vec<Asked>, version: Version) -> bool
     requires { vec_len actions.old < vec_capacity actions.old }
     ensures tries { MatchBool result
         (Tries version plant.old plant.new entry.now actions.old.items actions.new.items)
