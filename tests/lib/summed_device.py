@@ -38,8 +38,8 @@ class SummedDevice:
         return found
 
     def spell_03(self, slots: Sequence[int] = ()) -> None:
-        """Makes of a device of version 02 with half 0 alone one of version 03. Its actions were asked for by these slots, one
-        after the other, or that isn't said."""
+        """Makes of a device of version 02 with half 0 alone one of version 03. These slots asked for its actions, one
+        after the other; of the rest it isn't said."""
         gate, asked = self.begins, iter(slots)
         for at, gate in self.frames(False):
             epoch, number, count = struct.unpack(">8sQH", self.bytes[at + 1 : at + FRAME_HEAD])

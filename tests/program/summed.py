@@ -94,7 +94,7 @@ def goes_on(program: str, course: Course, path: str) -> None:
     written, spelled = SummedDevice(path), SummedDevice(os.path.join(course.folder, "course"))
     answered = zip(course.lines, course.replies)
     slots = [int(line.split()[0]) for line, reply in answered if b"OK" in reply.split()]
-    check(len(set(slots)) > 3, "few slots asked:", slots)
+    check(len(set(slots)) > 1, "few slots asked:", slots)
     spelled.spell_03(slots)
     end = written.frames(True)[-1][1]
     check(written.bytes[: end + 1] == spelled.bytes[: end + 1], "the desk spells 03 otherwise than FORMAT.md")

@@ -61,7 +61,8 @@ def judge_listing(device: bytes, listing: str) -> None:
     check(len(lines) == 5, "the page lists", len(lines), "places of version 03")
     for place, digits in lines:
         listed, at = bytes.fromhex(digits), int(place)
-        check(device[at : at + len(listed)] == listed, "at", at, "the device has", device[at : at + len(listed)].hex(" "))
+        found = device[at : at + len(listed)]
+        check(found == listed, "at", at, "the device has", found.hex(" "))
 
 
 def judge_rows(yard: Yard, before: bytes, table: str) -> int:

@@ -122,8 +122,8 @@ def asked(yard: Yard) -> str:
         word, *fields = words.split()
         named = fields if word == "CLOCK" else [tags[int(fields[0])], *fields[1:]]
         wanted.append(" ".join([str(number), word, *named]) + f"  (slot {slot})")
-    run = tool("alm_journal", device, "--from", len(asked_for) - 60)
-    check(run.stdout.splitlines() == wanted[-61:], "the trail is", run.stdout[-300:], run.stderr)
+    run = tool("alm_journal", device, "--from", len(asked_for) - 50)
+    check(run.stdout.splitlines() == wanted[-51:], "the trail is", run.stdout[-300:], run.stderr)
     return "who asked"
 
 

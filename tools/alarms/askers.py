@@ -1,4 +1,4 @@
-"""Which slot asked for each action. A device stores it from version 03 on; else the server remembers it for some time."""
+"""Which slot asked for each action. A device of version 03 stores it; else the server remembers it for some time."""
 from typing import Any, Optional
 
 from .archive_rows import SLOTS

@@ -86,7 +86,7 @@ pub fn write_frame_body(epoch: u64, first: u64, actions: &[Asked], out: &mut [u8
     requires room { 19 + 16 * length actions.now ≤ length out.old }
     ensures text { out.new ≡ frame_body version epoch first actions.now ++
         drop (19 + 16 * length actions.now) out.old }
-    // What is written is a frame, if who asked is told as the version tells it.
+    // What is written is a frame, if each asker is one of the version.
     ensures limits { All (IsSaid version) actions.now → IsFrame version epoch first actions.now }
 {
     let end = put_actions(out, HEAD_LEN, actions, version);

@@ -9,6 +9,7 @@
 //! | text | bytes |
 //! |---|---|
 //! | action | kind 1, zeros 3, alarm 4, argument 8: CLOCK 1, VALUE 2, ACK 3, RESET 4, SHELVE 5, UNSHELVE 6, OOS 7, DESIGN 8, PRIO 9, SETP 10 |
+//! | the same in a frame of version 03 | kind 1, who asked 1, zeros 2, alarm 4, argument 8 |
 //! | frame, after its gate | epoch 8, number of its first action 8, count 2, the actions, the next gate 1 |
 //! | the same in version 03 | epoch 8, the number's lower half 4, 255 times the count 2, checksum 4, the actions, the next gate 1 |
 //! | image | clock 8, next stamp 8; each area: flood 1, ages 600 times 8; each alarm 182 |
@@ -21,7 +22,7 @@
 //! What is used above: what is read is a text, whole; a text is read as what was written. Of a damaged text the place of one
 //! field is returned: the first whose value is against a rule, alone or together with the fields read earlier. A value has one
 //! text, and no text is a prefix of another's. In version 01 there are only the kinds 1 to 8 ([`Version::bears`]). In version 03
-//! a frame has the checksum of the bytes before it and of its actions. It is then damaged if any one byte of it is changed. All
+//! a frame has the checksum of the bytes before it and of its actions, and each of these says which slot asked ([`Asker`]). It is then damaged if any one byte of it is changed. All
 //! else is the same in all versions. Not covered: whether an action that is read is admitted. Only `read_image` takes memory: its
 //! `OutOfMemory` says nothing about the bytes.
 //!

@@ -42,7 +42,7 @@
 //! | Keeper | a keeper as its callers see it: stage, work, what is stored and what is begun; and what each call makes of it |
 //! | Stages | the stages, and which bytes may be left at each |
 //! | AsStore, StoreLaws | what a keeper is as a [`Store`](alm_store::Store), and why that meets a store's laws |
-//! | Batch | the accepted actions of a batch, and how they are tried one after the other |
+//! | Batch | the accepted actions of a batch, each with the slot that asked, and how they are tried one after the other |
 //! | Formatting, Moments | what formatting makes: ten device calls in their order, and what a crash leaves at any moment of each |
 //! | Opening | what opening answers to the bytes |
 //! | Calls | which device call is that of a stage, and which are those of an opening |
