@@ -10,6 +10,10 @@ _alm_server() {
         :
     elif [ "${COMP_WORDS[1]}" = serve ] && [ "$COMP_CWORD" -gt 2 ]; then
         mapfile -t COMPREPLY < <(compgen -W "--port --sockets --conns --patience" -- "$cur")
+    elif [ "$prev" = --version ]; then
+        mapfile -t COMPREPLY < <(compgen -W "02 03" -- "$cur")
+    elif [ "${COMP_WORDS[1]}" = format ] && [ "$COMP_CWORD" -gt 3 ]; then
+        mapfile -t COMPREPLY < <(compgen -W "--version" -- "$cur")
     elif [ "${COMP_WORDS[1]}" = format ] && [ "$COMP_CWORD" -eq 3 ]; then
         mapfile -t COMPREPLY < <(compgen -f -X '!*.toml' -- "$cur"; compgen -d -- "$cur")
     elif [ "$COMP_CWORD" -eq 2 ]; then

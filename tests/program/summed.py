@@ -6,12 +6,12 @@
 The same plant is shown. Each bit of header, head and frames is then changed in turn, and some of the image: each is
 refused, at a place in its part. So is each byte, set to each other value, in a full run. A gate at every value but 5A
 hides nothing. A half of another version under that header is refused at its mark. The desk goes on from such a device
-with the same replies, and what it writes is spelled so too.
+with the same replies, and what it writes is spelled so too. `format` makes it, and of no other version but 02.
 """
 import os
 import sys
 
-from lib.program import Course, Fault, begin, check, ends, finish, run_words
+from lib.program import PLANT, Course, Fault, begin, check, ends, finish, run_words
 from lib.summed_device import CLOSED, HEAD, HEADER, MARK_03, OPEN, SummedDevice
 
 MARK_02 = 2
@@ -88,7 +88,9 @@ def goes_on(program: str, course: Course, path: str) -> None:
     """The desk does the whole course over a fresh device of version 03, and spells it as this script does."""
     fresh = SummedDevice(course.fresh)
     fresh.spell_03()
-    fresh.write(path)
+    run = run_words(program, ["format", path, PLANT, "--version", "03"])
+    check(run.returncode == 0 and run.stdout == b"formatted 4 2 4116\n", "format", run.stdout, run.stderr)
+    check(SummedDevice(path).bytes == fresh.bytes, "format spells 03 otherwise than FORMAT.md")
     run = run_words(program, ["desk", path], lines=b"".join(course.lines))
     check(run.returncode == 0 and run.stdout == b"".join(course.replies), "the desk over 03:", run.stdout, run.stderr)
     written, spelled = SummedDevice(path), SummedDevice(os.path.join(course.folder, "course"))
@@ -98,6 +100,18 @@ def goes_on(program: str, course: Course, path: str) -> None:
     spelled.spell_03(slots)
     end = written.frames(True)[-1][1]
     check(written.bytes[: end + 1] == spelled.bytes[: end + 1], "the desk spells 03 otherwise than FORMAT.md")
+
+
+def try_names(program: str, path: str) -> None:
+    """Versions that `format` doesn't make, and no version, which is 02."""
+    for words in (["--version", "01"], ["--version", "3"], ["--version", "04"], ["--version", ""], ["--version"]):
+        run = run_words(program, ["format", path, PLANT, *words])
+        check((run.returncode, run.stderr) == (1, b"fault usage\n"), words, run.returncode, run.stderr)
+    for words in ([], ["--version", "02"]):
+        run = run_words(program, ["format", path, PLANT, *words])
+        with open(path, "rb") as file:
+            name = file.read(9)[1:]
+        check(run.returncode == 0 and name == b"ALMSRV02", words, run.returncode, name)
 
 
 def main() -> None:
@@ -113,6 +127,7 @@ def main() -> None:
     try_gates(program, device, path, before)
     try_marks(program, device, path)
     goes_on(program, course, path)
+    try_names(program, path)
     finish("summed", folder, f"{tried} changes of a device with {len(device.frames(True))} frames, each refused")
 
 

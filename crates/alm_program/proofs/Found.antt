@@ -2,7 +2,8 @@
 use Rattle.std.proofs.Common.{◌≡◌, refl, sym, ap, Bor, ℕ, Option, Some, None, MatchResult, option_map, ok_or, codes, true, List, Err, Ok}
 use Rattle.std.specs.Str.{bytes_eq}
 use Rattle.clap.specs.Words.{Row, Text}
-use Rattle.alm_program.specs.Orders.{At, conns_in, patience_in, desk, device_in, order_at, endpoints_by, serve, serve_by}
+use Rattle.alm_codec.specs.declared.version.Version.{Version}
+use Rattle.alm_program.specs.Orders.{At, conns_in, patience_in, desk, device_in, format, format_by, order_at, endpoints_by, serve, serve_by, version_in}
 use Rattle.alm_program.specs.declared.words_fault.WordsFault.{WordsFault}
 use Rattle.alm_program.specs.declared.words_fault.WordsFault.TheVariants.{Usage}
 
@@ -46,3 +47,10 @@ not_placed d c s p device d_is p_is = rw (d_is, p_is) refl
 -- the endpoints, by words that were found
 pub placed : (p p' f f' : Option Text) (at : Option At) → p ≡ p' → f ≡ f' → endpoints_by p f ≡ at → endpoints_by p' f' ≡ at
 placed p p' f f' at port folder e = rw (sym port, sym folder) e
+
+-- what a format is asked, if all its words are read, and if its version isn't
+pub formatted : (d t v : Option Text) (device table : Text) (version : Version) → d ≡ Some device → t ≡ Some table → version_in v ≡ Some version → format_by d t v ≡ Some (format device table version)
+formatted d t v device table version d_is t_is v_is = rw (d_is, t_is, v_is) refl
+
+pub not_versioned : (d t v : Option Text) (device table : Text) → d ≡ Some device → t ≡ Some table → version_in v ≡ None → format_by d t v ≡ None
+not_versioned d t v device table d_is t_is v_is = rw (d_is, t_is, v_is) refl

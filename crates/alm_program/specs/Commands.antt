@@ -21,11 +21,11 @@ named rule = record rule { long = Some rule.id }
 abbrev pub desk : App
 desk = with_rule (new_app (codes "desk")) (optional (codes "device"))
 
--- format DEVICE TABLE
+-- format DEVICE TABLE [--version 02 or 03]
 abbrev pub format : App
 format =
-    with_rule (with_rule (new_app (codes "format")) (wanted (codes "device")))
-    (wanted (codes "table"))
+    with_rule (with_rule (with_rule (new_app (codes "format")) (wanted (codes "device")))
+    (wanted (codes "table"))) (named (optional (codes "version")))
 
 -- show DEVICE
 abbrev pub show : App

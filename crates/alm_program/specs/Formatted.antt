@@ -2,7 +2,7 @@
 -- A device that was formatted, and what is printed of it.
 use Rattle.std.specs.Prelude.{◌≡◌, ℕ, List, ◌++◌, Ok, codes, decimal}
 use Rattle.alm_types.specs.Tables.{Listing}
-use Rattle.alm_codec.specs.declared.version.Version.TheVariants.{V02}
+use Rattle.alm_codec.specs.declared.version.Version.{Version}
 use Rattle.alm_disk.specs.declared.disk.Disk
 use Rattle.alm_file.specs.Replay.{BeginsAs}
 use Rattle.alm_keeper.specs.Formatted.{IsFormatted}
@@ -13,16 +13,16 @@ abbrev pub formatted_text : (rows areas segment : ℕ) → List ℕ
 formatted_text rows areas segment =
     codes "formatted " ++ (decimal rows ++ (codes " " ++ (decimal areas ++ (codes " " ++ (decimal segment ++ codes "\n")))))
 
--- a device of this size, whose file held the bytes `start`, was formatted for a table
-pub record IsMadeFor {D : Type 0} (d : Disk.Ghosts D) (start : List ℕ) (size : ℕ) (table : Listing) (made : D) : Type 0 where
+-- a device of this size, whose file held the bytes `start`, was formatted in a version for a table
+pub record IsMadeFor {D : Type 0} (d : Disk.Ghosts D) (start : List ℕ) (size : ℕ) (version : Version) (table : Listing) (made : D) : Type 0 where
   pub device : D
   pub begins : BeginsAs start (d.size device) (d.honest device) (d.state device)
   pub sized : d.size device ≡ size
-  pub formatted : IsFormatted d.serves d.state d.honest d.size V02 table device made
+  pub formatted : IsFormatted d.serves d.state d.honest d.size version table device made
 
 -- the same for the table of a text, at its size
-pub record IsFormattedFor {D : Type 0} (d : Disk.Ghosts D) (start text : List ℕ) (made : D) : Type 0 where
+pub record IsFormattedFor {D : Type 0} (d : Disk.Ghosts D) (start : List ℕ) (version : Version) (text : List ℕ) (made : D) : Type 0 where
   pub size : ℕ
   pub table : Listing
   pub reads : ReadsAs text (Ok (device_table size table))
-  pub is : IsMadeFor d start size table made
+  pub is : IsMadeFor d start size version table made

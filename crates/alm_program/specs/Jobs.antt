@@ -24,7 +24,7 @@ AreEndpoints (Sockets folder) = ⊤
 -- .. if there are ports
 abbrev pub IsJob : Job → Type 0
 IsJob (Desk device) = ⊤
-IsJob (Format device table) = ⊤
+IsJob (Format device table version) = ⊤
 IsJob (Show device) = ⊤
 IsJob (Export device) = ⊤
 IsJob (Serve device endpoints conns patience) = AreEndpoints endpoints

@@ -3,6 +3,8 @@ use Rattle.std.specs.Prelude.{◌≡◌, ◌+◌, ◌^◌, ℕ, ⊤, List, [], �
 use Rattle.std.specs.Prelude.{codes, if◌then◌else◌, nat_le, option_and_then, option_map}
 use Rattle.std.specs.Str.{bytes_eq}
 use Rattle.clap.specs.Words.{Kinds, Row, Text, fault_of, first_of, subcommand_of}
+use Rattle.alm_codec.specs.declared.version.Version.{Version}
+use Rattle.alm_codec.specs.declared.version.Version.TheVariants.{V02, V03}
 use Rattle.alm_lines.specs.Line.{number}
 use Rattle.alm_program.specs.Commands.{commands}
 use Rattle.alm_program.specs.Jobs.{greatest_port, least_port, most_patience}
@@ -25,7 +27,7 @@ endpoints_of (endpoints.Sockets folder) = sockets folder.now
 -- what words ask for, in texts and numbers
 pub data JobOrder : Type 0 where
   desk : Option Text → JobOrder
-  format : Text → Text → JobOrder
+  format : Text → Text → Version → JobOrder
   show : Text → JobOrder
   export : Text → JobOrder
   serve : Text → At → ℕ → Option ℕ → JobOrder
@@ -33,7 +35,7 @@ pub data JobOrder : Type 0 where
 -- a job's own order
 abbrev pub order_of : Job → JobOrder
 order_of (job.Desk device) = desk (option_map (λ d. d.now) device)
-order_of (job.Format device table) = format device.now table.now
+order_of (job.Format device table version) = format device.now table.now version
 order_of (job.Show device) = show device.now
 order_of (job.Export device) = export device.now
 order_of (job.Serve device endpoints conns patience) = serve device.now (endpoints_of endpoints) conns patience
@@ -67,10 +69,19 @@ patience_in (Some digits) =
 abbrev pub device_in : List Row → Option Text
 device_in = first_of (codes "device")
 
+-- the version of a new device, 02 if it is missing
+abbrev pub version_in : Option Text → Option Version
+version_in None = Some V02
+version_in (Some name) =
+    if bytes_eq name (codes "02") then Some V02
+    else (if bytes_eq name (codes "03") then Some V03 else None)
+
+abbrev pub format_by : (device table version : Option Text) → Option JobOrder
+format_by device table version =
+    option_and_then (λ d. option_and_then (λ t. option_map (format d t) (version_in version)) table) device
+
 abbrev pub format_in : List Row → Option JobOrder
-format_in rows =
-    option_and_then (λ device. option_map (format device) (first_of (codes "table") rows))
-    (device_in rows)
+format_in rows = format_by (device_in rows) (first_of (codes "table") rows) (first_of (codes "version") rows)
 
 abbrev pub serve_by : Option Text → Option At → Option Text → Option Text → Option JobOrder
 serve_by device at conns patience =

@@ -10,7 +10,7 @@ IsOrderOf (serve device at conns patience) (Some asked) =
     (string_bytes asked.device ≡ device) × (at_of asked.endpoints ≡ at) × (asked.conns ≡ conns) × (asked.patience ≡ patience)
 IsOrderOf (serve device at conns patience) None = ⊥
 IsOrderOf (desk device) asked = IsNone asked
-IsOrderOf (format device table) asked = IsNone asked
+IsOrderOf (format device table version) asked = IsNone asked
 IsOrderOf (show device) asked = IsNone asked
 IsOrderOf (export device) asked = IsNone asked
 

@@ -12,7 +12,7 @@ use alm_checkpoint::Layout;
 use alm_codec::Version;
 use alm_disk::Disk;
 use alm_file::{FileDisk, Start};
-use alm_keeper::format;
+use alm_keeper::format_as;
 use alm_lines::{Part, put_parts};
 use alm_table::table_of;
 use alm_types::Table;
@@ -29,14 +29,14 @@ fn is_same_file<R: Files<File = File>>(rt: &R, one: &str, other: &str) -> bool {
 }
 
 /// The layout of a device of this size for a table, with the longest segment that fits twice.
-fn layout_for(size: u64, table: &Table) -> Result<Layout, Fault>
+fn layout_for(size: u64, table: &Table, version: Version) -> Result<Layout, Fault>
     ensures longest { IfOk result (IsLongest size table.now) }
     ensures too_small { IfErr result
         (λ fault. (fault ≡ Fault.TooSmall) × ((n : ℕ) →
         segment_fits size (length table.now.alarms) table.now.areas n ≡ false)) }
 {
     let rows = table.alarms().len() as u32;
-    Layout::longest(rows, table.areas(), size, Version::V02).ok_or(Fault::TooSmall)
+    Layout::longest(rows, table.areas(), size, version).ok_or(Fault::TooSmall)
 }
 
 /// A device that was formatted, and the length of its segments.
@@ -46,22 +46,23 @@ struct Formatted<D: Drop> {
     segment: u32,
 }
 
-/// Formats the file of a device for a table. The file is made or set to this size first, and stays so if a refusal follows. All
+/// Formats the file of a device for a table, in a version. The file is made or set to this size first, and stays so if a refusal follows. All
 /// that its layout uses gets room on the disk, so that no later write meets a full disk.
 fn format_file<S: Start, R: Files<File = File> + AllocGlobal>(
     rt: &R,
     device: &str,
     size: u64,
     table: &Table,
+    version: Version,
     start: S,
 ) -> Result<Formatted<FileDisk<S>>, Fault>
     ensures longest { IfOk result
         (λ done. (layout : Layout) × IsLongest size table.now layout ×
         (layout.segment ≡ done.segment)) }
     ensures formatted { IfOk result
-        (λ done. IsMadeFor ⟦<FileDisk<S> as Disk>⟧ S.Start.bytes size table.now done.device) }
+        (λ done. IsMadeFor ⟦<FileDisk<S> as Disk>⟧ S.Start.bytes size version table.now done.device) }
 {
-    let fitting = layout_for(size, table);
+    let fitting = layout_for(size, table, version);
     let used = match &fitting {
         Ok(layout) => layout.device_len(),
         Err(_) => 0,
@@ -71,7 +72,7 @@ fn format_file<S: Start, R: Files<File = File> + AllocGlobal>(
         Err(fault) => return Err(file_fault(fault)),
     };
     let layout = fitting?;
-    match format(rt.alloc(), disk, table) {
+    match format_as(rt.alloc(), disk, table, version) {
         Ok(device) => Ok(Formatted {
             device,
             segment: layout.segment,
@@ -108,34 +109,37 @@ fn format_text<S: Start, R: Files<File = File> + Print + AllocGlobal>(
     rt: &R,
     device: &str,
     text: &[u8],
+    version: Version,
     start: S,
 ) -> Result<FileDisk<S>, Fault>
     ensures { IfOk result
-        (λ made. IsFormattedFor ⟦<FileDisk<S> as Disk>⟧ S.Start.bytes text.now made) }
+        (λ made. IsFormattedFor ⟦<FileDisk<S> as Disk>⟧ S.Start.bytes version text.now made) }
 {
     let (size, table) = table_of(rt.alloc(), text)?;
-    let done = format_file(rt, device, size, &table, start)?;
+    let done = format_file(rt, device, size, &table, version, start)?;
     match print_formatted(&table, done.segment, &mut io::writer(rt)) {
         Ok(()) => Ok(done.device),
         Err(error) => Err(io_fault(error)),
     }
 }
 
-/// Makes a device of a table file, prints its rows, areas and segment, and returns it, as [`format_text`] does of the file's text.
+/// Makes a device of a table file in a version, prints its rows, areas and segment, and returns it, as [`format_text`] does of
+/// the file's text.
 pub fn run_format<S: Start, R: Files<File = File> + Print + AllocGlobal>(
     rt: &R,
     device: &str,
     table: &str,
+    version: Version,
     start: S,
 ) -> Result<FileDisk<S>, Fault>
     ensures { IfOk result (λ made. (text : List ℕ) ×
-        IsFormattedFor ⟦<FileDisk<S> as Disk>⟧ S.Start.bytes text made) }
+        IsFormattedFor ⟦<FileDisk<S> as Disk>⟧ S.Start.bytes version text made) }
 {
     if is_same_file(rt, device, table) {
         return Err(Fault::Usage);
     }
     match fs::read(rt, table) {
-        Ok(text) => format_text(rt, device, text.as_slice(), start),
+        Ok(text) => format_text(rt, device, text.as_slice(), version, start),
         Err(error) => Err(io_fault(error)),
     }
 }

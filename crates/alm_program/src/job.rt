@@ -1,16 +1,18 @@
 //! Jobs.
 
 use crate::endpoints::Endpoints;
+use alm_codec::Version;
 
 /// What the program is asked to do.
 #[derive(Clone, Copy, Debug, PartialEq, Eq)]
 pub enum Job<'a> {
     /// Answers standard input, over a device or the worked table in memory.
     Desk(Option<&'a str>),
-    /// Makes a device of a table file.
+    /// Makes a device of a table file, in a version.
     Format {
         device: &'a str,
         table: &'a str,
+        version: Version,
     },
     /// Prints the plant of a device.
     Show(&'a str),

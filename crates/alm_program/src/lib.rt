@@ -10,7 +10,7 @@
 //! |---|---|
 //! | `desk` | the worked table in memory, over standard input and output |
 //! | `desk DEVICE` | the same, but over a device that is formatted |
-//! | `format DEVICE TABLE` | makes the file of a device, and formats it for a table file |
+//! | `format DEVICE TABLE [--version 02 or 03]` | makes the file of a device, and formats it for a table file; in version 02, if none is named |
 //! | `show DEVICE` | prints the plant on a device |
 //! | `export DEVICE` | prints the table of that plant as a table file, with the size, priorities and setpoints in force |
 //! | `serve DEVICE --port P ..` | a [`ServeOrder`]: the slots of a formatted device at 18 ports |

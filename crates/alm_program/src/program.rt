@@ -83,7 +83,11 @@ fn run_job<'a, R: Input + Print + Files<File = File> + AllocGlobal>(
     match job {
         Job::Desk(None) => run_desk(rt)?,
         Job::Desk(Some(device)) => run_device_desk(rt, device, Unknown)?.done?,
-        Job::Format { device, table } => drop(run_format(rt, device, table, Unknown)?),
+        Job::Format {
+            device,
+            table,
+            version,
+        } => drop(run_format(rt, device, table, version, Unknown)?),
         Job::Show(device) => run_show(rt, device, Unknown)?,
         Job::Export(device) => run_export(rt, device, Unknown)?,
         Job::Serve {

@@ -5,12 +5,13 @@ ghost use Rattle.std.specs.String.{string_bytes};
 ghost use Rattle.clap.specs.Words.{App, first_of, found_of, rows_of, with_rule, with_subcommand};
 ghost use Rattle.alm_program.specs.Commands.{IsCommand, IsWord, desk, export, format, named, optional, serve, show, commands, wanted};
 ghost use Rattle.alm_program.specs.Jobs.{IsJob, AreEndpoints, greatest_port, least_port};
-ghost use Rattle.alm_program.specs.Orders.{IsJobOf, conns_in, format_in, patience_in, order_at, order_in, endpoints_by, endpoints_of, port_in, serve_in};
+ghost use Rattle.alm_program.specs.Orders.{IsJobOf, conns_in, format_in, patience_in, order_at, order_in, endpoints_by, endpoints_of, port_in, serve_in, version_in};
 ghost use Rattle.alm_program.specs.declared.words_fault.WordsFault.TheVariants.{Usage};
 
 use crate::endpoints::Endpoints;
 use crate::job::Job;
 use crate::words_fault::WordsFault;
+use alm_codec::Version;
 use alm_lines::number;
 use clap::{Arg, ArgAction, ArgMatches, Command};
 use std::alloc::{AllocError, Global};
@@ -33,9 +34,10 @@ fn desk_command<'a>(alloc: Global) -> Result<Command<'a>, AllocError>
 fn format_command<'a>(alloc: Global) -> Result<Command<'a>, AllocError>
     ensures { IfOk result (IsCommand format) }
 {
-    Command::new(alloc, "format")
+    let above = Command::new(alloc, "format")
         .arg(wanted(alloc, "device"))?
-        .arg(wanted(alloc, "table"))
+        .arg(wanted(alloc, "table"))?;
+    with_option(alloc, above, "version")
 }
 
 /// What a show is asked.
@@ -110,14 +112,27 @@ fn word<'a>(matches: &ArgMatches<'a>, name: &str) -> Result<&'a str, WordsFault>
     matches.get_str(name).ok_or(WordsFault::Usage)
 }
 
+/// The version of a new device.
+fn version_of(name: Option<&str>) -> Result<Version, WordsFault>
+    ensures { result ≡ ok_or (version_in (option_map (λ text. text.now) name.entry)) Usage }
+{
+    match name {
+        None | Some("02") => Ok(Version::V02),
+        Some("03") => Ok(Version::V03),
+        Some(_) => Err(WordsFault::Usage),
+    }
+}
+
 /// What a format is asked.
 fn format_of<'a>(matches: &ArgMatches<'a>) -> Result<Job<'a>, WordsFault>
     ensures asked { IsJobOf (format_in (rows_of (found_of matches.now))) result }
     ensures ports { IfOk result IsJob }
 {
-    let device = word(matches, "device")?;
-    let table = word(matches, "table")?;
-    Ok(Job::Format { device, table })
+    Ok(Job::Format {
+        device: word(matches, "device")?,
+        table: word(matches, "table")?,
+        version: version_of(matches.get_str("version"))?,
+    })
 }
 
 /// The port of the first slot.
