@@ -49,6 +49,20 @@ def crates(found, page):
     found.check(tops and above == set(tops.groups()), "CONTRIBUTING.md: on the last two crates stand", above)
 
 
+def groups(found, _):
+    """The groups of crates.txt, without the last one, are those of ARCHITECTURE."""
+    page = text_of(TOP / "docs" / "develop" / "ARCHITECTURE.md")
+    table = page.partition("| crate | does |\n|---|---|\n")[2].partition("\n\n")[0]
+    drawn = [line.split("|")[1].strip().strip("*") for line in table.splitlines()]
+    *blocks, tests = text_of(TOP / "crates.txt").split("\n\n")[1:]
+    lines = [line for block in blocks for line in block.splitlines()]
+    listed = [line.removeprefix("# ") if line[0] == "#" else line.split(":")[0].split()[0] for line in lines]
+    found.check(
+        listed == drawn, "crates.txt has other groups than docs/develop/ARCHITECTURE.md:", set(listed) ^ set(drawn)
+    )
+    found.check(tests.startswith("# Tests"), "crates.txt: its last group is that of tests")
+
+
 def greps(found, page):
     """What a command of the page finds, and in how many files."""
     for command, number in GREP.findall(page):
@@ -104,6 +118,6 @@ def counted(found):
     """All of these."""
     whole = text_of(TOP / "CONTRIBUTING.md")
     page = " ".join(whole.split())
-    for look in (crates, greps, bounds, models):
+    for look in (crates, groups, greps, bounds, models):
         look(found, page)
     files(found, whole)
