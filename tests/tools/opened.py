@@ -140,8 +140,8 @@ def judge(by_lines: set[str], by_file: set[str]) -> None:
     page = (DOCS / "develop" / "TOOLS.md").read_text(encoding="utf-8")
     section = page.partition("\n## Who opens a device's file\n")[2].partition("\n## ")[0]
     rows = [row.split("|")[1] for row in section.splitlines() if row.startswith("| `")]
-    told = set(re.findall(r"alm_\w+", "".join(rows)))
-    check(told == by_file | OTHERS, "docs/develop/TOOLS.md names", told, "and not", by_file | OTHERS)
+    on_page = set(re.findall(r"alm_\w+", "".join(rows)))
+    check(on_page == by_file | OTHERS, "docs/develop/TOOLS.md names", on_page, "and not", by_file | OTHERS)
     commands = set(tomllib.loads((TOP / "pyproject.toml").read_text(encoding="utf-8"))["project"]["scripts"])
     left = commands - by_lines - by_file
     check(left <= {"alm_browser"}, "never run:", left)
