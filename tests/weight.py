@@ -4,7 +4,8 @@
     tests/weight.py [COMMAND ..]      while this runs; without one `rt ci`
 
 Looks twice a second at the prover's processes, of any folder, so nothing else may prove meanwhile. A process that lives
-for less isn't seen. Prints a line for each crate, the heaviest first, and the sum. Its status is the command's.
+for less isn't seen. Prints a line for each crate, the heaviest first, and the sum; then the wrong bodies of the gate
+that took longest. Its status is the command's.
 """
 import os
 import subprocess
@@ -14,7 +15,9 @@ from pathlib import Path
 
 TOP = Path(__file__).resolve().parent.parent
 PERIOD = 0.5
-KINDS = ("proof", "tests", "wrong bodies", "other")
+KINDS = ("proof", "tests", "wrong bodies")
+# How the folders are called in which `rt` tries wrong bodies, and how many of these are printed.
+TRIED, HEAVIEST = "rt-edit-", 12
 PER_SECOND = os.sysconf("SC_CLK_TCK")
 
 
@@ -43,17 +46,42 @@ def place_of(process: Path) -> str:
         return ""
 
 
+def changed(crate: Path, lines: list[str]) -> dict[str, str]:
+    """A crate's files as the lines of a wrong body change them."""
+    texts, name, old = {}, "", ""
+    for kind, _, said in (line.partition(": ") for line in lines):
+        if kind == "file":
+            name = said
+            texts.setdefault(name, (crate / name).read_text(encoding="utf-8"))
+        elif kind == "old":
+            old = said
+        elif kind == "new":
+            texts[name] = texts[name].replace(old, said)
+    return texts
+
+
+def edit_of(crate: str, room: str) -> str:
+    """The wrong body that is tried in a folder; empty where it is none of this repository, or the crate as it is."""
+    folder = TOP / "crates" / crate
+    for edit in sorted(folder.glob("must-fail/*.edit")):
+        try:
+            texts = changed(folder, edit.read_text(encoding="utf-8").splitlines())
+            if all(Path(room, name).read_text(encoding="utf-8") == text for name, text in texts.items()):
+                return edit.stem
+        except OSError:
+            pass
+    return ""
+
+
 def account_of(process: Path) -> tuple[str, str] | None:
     """The crate and the kind to whose account a process goes; none where it is no prover."""
     words = words_of(process)
     if not words or Path(words[0]).name != "rattle" or "--crate-name" not in words:
         return None
     crate = words[words.index("--crate-name") + 1]
-    if TOP not in Path(place_of(process)).parents:
+    if Path(place_of(process)).name.startswith(TRIED):
         return crate, "wrong bodies"
-    if "--test" in words:
-        return crate, "tests"
-    return crate, "proof" if words[1] == "check" else "other"
+    return crate, "tests" if "--test" in words else "proof"
 
 
 class Weights:
@@ -62,6 +90,7 @@ class Weights:
     def __init__(self) -> None:
         self.accounts: dict[str, tuple[str, str]] = {}
         self.seconds: dict[str, float] = {}
+        self.edits: dict[str, str] = {}
 
     def look(self) -> None:
         """Looks at each process that there is now."""
@@ -70,6 +99,8 @@ class Weights:
             if account:
                 began = f"{process.name} {account}"
                 self.accounts[began] = account
+                if account[1] == KINDS[-1] and began not in self.edits:
+                    self.edits[began] = edit_of(account[0], place_of(process))
                 self.seconds[began] = max(self.seconds.get(began, 0.0), seconds_of(process))
 
     def of(self, crate: str | None) -> list[float]:
@@ -87,6 +118,18 @@ class Weights:
         head = f"| crate | {' | '.join(KINDS)} | sum |\n|{'---|' * (len(KINDS) + 2)}"
         return "\n".join([head, *(line(name, cells) for name, cells in [*rows, ("all", self.of(None))])])
 
+    def heaviest(self) -> str:
+        """The lines of the wrong bodies that took longest, in minutes."""
+        sums: dict[str, float] = {}
+        for began, edit in self.edits.items():
+            if edit:
+                name = f"{self.accounts[began][0]}/{edit}"
+                sums[name] = sums.get(name, 0.0) + self.seconds[began]
+        rows = sorted(sums.items(), key=lambda one: -one[1])[:HEAVIEST]
+        return "\n".join(
+            ["| wrong body | minutes |\n|---|---|", *(f"| {name} | {sum / 60:.1f} |" for name, sum in rows)]
+        )
+
 
 def line(name: str, cells: list[float]) -> str:
     """A line of the table."""
@@ -100,6 +143,8 @@ def main() -> int:
             weights.look()
             time.sleep(PERIOD)
     print(weights.table())
+    if any(weights.edits.values()):
+        print(weights.heaviest())
     print(f"{(time.monotonic() - began) / 60:.0f} minutes")
     return command.returncode
 

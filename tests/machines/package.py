@@ -26,7 +26,7 @@ import units
 from container import HERE, TOP, run_script
 from systemd import active, ask, await_true, check, count, moves, output, shared, state_of
 
-VERSIONS = ("0.3.0", "0.3.1")
+VERSIONS = ("0.4.0", "0.4.1")
 DEVICES = ("/var/lib/alarms/plant.device", "/var/lib/alarms/north.device")
 UNITS = [f"alm_{part}@{plant}" for part in ("server", "clock", "archive") for plant in ("plant", "north")]
 COMPLETE = (

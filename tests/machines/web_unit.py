@@ -121,14 +121,17 @@ def broken_into():
 
 
 def told_by_web():
-    """The beginning of a stream, as the proxy gets it for a user."""
+    """The beginning of a stream, as the proxy gets it for a user; empty where nobody listens."""
     named = b"Host: alarms.example\r\nX-Alarms-User: anna\r\nX-Alarms-Role: viewer\r\n"
     replies = []
     for line in (b"GET / HTTP/1.1\r\nConnection: close\r\n", b"GET /stream HTTP/1.1\r\nCookie: "):
         cookie = re.findall(rb"(?i)set-cookie: ([^;]+)", b"".join(replies))
         with socket.socket(socket.AF_UNIX) as client:
             client.settimeout(3)
-            client.connect("/run/alarms-browser/plant/socket")
+            try:
+                client.connect("/run/alarms-browser/plant/socket")
+            except ConnectionRefusedError:  # it is bound, and doesn't listen yet
+                return b""
             client.sendall(line + (cookie[0] + b"\r\n" if cookie else b"") + named + b"\r\n")
             replies.append(all_of(client))
     return replies[1]

@@ -13,7 +13,7 @@ GREP = re.compile(r"`(git grep [^`]*)`(?: shows some (\d+) files)?")
 AMONG = re.compile(r"Of (\d+) crates that is ([^.]*)\.")
 GROUP = re.compile(r"(\d+)(?: to (\d+))? for (alm_\w+(?:(?:, | and )alm_\w+)*)")
 NAMED = re.compile(r"`((?:src|specs|proofs)/[\w/]+(?:\.rt|\.antt|/))`")
-WORDS = {8: "eight"}
+WORDS = {6: "six", 7: "seven", 8: "eight", 9: "nine", 10: "ten"}
 
 
 def text_of(path):
@@ -47,6 +47,20 @@ def crates(found, page):
     tops = re.search(r"end with (alm_\w+) and (alm_\w+), on which no other crate stands", page)
     above = set().union(*(with_above(name, below) for name in tops.groups())) if tops else set()
     found.check(tops and above == set(tops.groups()), "CONTRIBUTING.md: on the last two crates stand", above)
+
+
+def groups(found, _):
+    """The groups of crates.txt, without the last one, are those of ARCHITECTURE."""
+    page = text_of(TOP / "docs" / "develop" / "ARCHITECTURE.md")
+    table = page.partition("| crate | does |\n|---|---|\n")[2].partition("\n\n")[0]
+    drawn = [line.split("|")[1].strip().strip("*") for line in table.splitlines()]
+    *blocks, tests = text_of(TOP / "crates.txt").split("\n\n")[1:]
+    lines = [line for block in blocks for line in block.splitlines()]
+    listed = [line.removeprefix("# ") if line[0] == "#" else line.split(":")[0].split()[0] for line in lines]
+    found.check(
+        listed == drawn, "crates.txt has other groups than docs/develop/ARCHITECTURE.md:", set(listed) ^ set(drawn)
+    )
+    found.check(tests.startswith("# Tests"), "crates.txt: its last group is that of tests")
 
 
 def greps(found, page):
@@ -104,6 +118,6 @@ def counted(found):
     """All of these."""
     whole = text_of(TOP / "CONTRIBUTING.md")
     page = " ".join(whole.split())
-    for look in (crates, greps, bounds, models):
+    for look in (crates, groups, greps, bounds, models):
         look(found, page)
     files(found, whole)

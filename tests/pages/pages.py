@@ -5,7 +5,8 @@
 
 Each link to a file of the repository leads to one, and to a heading of it where it names one. Each block of Rust that a
 page of docs/ quotes stands in a source, whatever its spaces. The counts of wrong bodies and of crates below the program
-are the tree's, as are those of CONTRIBUTING and the files that it names (counted.py). The sums of
+are the tree's, and of what was checked by reading the list's; so are those of CONTRIBUTING and the files that it names
+(counted.py). The sums of
 docs/proof/BELIEVED.md stand in docs/proof/README.md. Each call that a root file names as carrying a claim is in the
 code of its crate or of those below it. docs/ALARMS.md has each law. Each wrong body and each wrong model applies:
 `rt ci` passes over a body that doesn't. A body changes code alone, but in the crates of laws, which have none.
@@ -15,7 +16,7 @@ import sys
 from pathlib import Path
 
 import proved as root_files
-from counted import counted
+from counted import WORDS, counted
 
 TOP = Path(__file__).resolve().parents[2]
 PROOF = TOP / "docs" / "proof"
@@ -123,6 +124,11 @@ def counts(found):
     found.check(
         f"it proves {crates} crates" in readme, "README.md: the program stands on", crates, "crates, itself among them"
     )
+    section = text_of(PROOF / "README.md").partition("\n## Checked by reading\n")[2].partition("\n## ")[0]
+    number = WORDS.get(len(re.findall(r"^\d+\. ", section, re.MULTILINE)), "?").capitalize()
+    for page in (readme, text_of(TOP / "docs" / "START.md")):
+        said = f"{number} things that no clause says of the program were" in " ".join(page.split())
+        found.check(said, "README.md and docs/START.md: checked by reading were", number, "things")
 
 
 def promise(found):

@@ -13,41 +13,6 @@ from pathlib import Path
 
 TOP = Path(__file__).resolve().parents[2]
 PAGE = TOP / "docs" / "proof" / "CLAIMS.md"
-GROUPS = {
-    "Values, alarms, plants": [
-        "alm_types",
-        "alm_state",
-        "alm_model",
-        "alm_events",
-        "alm_laws",
-        "alm_links",
-        "alm_wheel",
-        "alm_measure",
-        "alm_plant",
-    ],
-    "Lines, the desk, the program": [
-        "alm_lines",
-        "alm_desk",
-        "alm_desk_laws",
-        "alm_export",
-        "alm_table",
-        "alm_program",
-        "alm_server",
-    ],
-    "The device and what is stored": [
-        "alm_disk",
-        "alm_file",
-        "alm_sum",
-        "alm_codec",
-        "alm_segment",
-        "alm_checkpoint",
-        "alm_store",
-        "alm_keeper",
-    ],
-    "From request to receipt": ["alm_rings", "alm_board", "alm_shared", "alm_seq", "alm_flush"],
-    "One thread": ["alm_pipeline", "alm_bench", "alm_progress", "alm_stack"],
-    "Threads and the server": ["alm_wake", "alm_history", "alm_moments", "alm_threads", "alm_session", "alm_serve"],
-}
 # How each claim begins that stands on the page in place of its crate's first one; none, if what a crate is for is said
 # by the claims of those above it, or by another page.
 CHOSEN = {
@@ -103,9 +68,20 @@ def claims(crate):
         yield found.groups()
 
 
+def groups():
+    """The groups of crates.txt by their titles, with the crates of each of which anything is claimed."""
+    found, title = {}, ""
+    for line in (TOP / "crates.txt").read_text(encoding="utf-8").splitlines():
+        if line.startswith("# "):
+            title = line.removeprefix("# ")
+        elif line and LISTED.search(root(crate := line.split(":")[0].split()[0]).read_text(encoding="utf-8")):
+            found.setdefault(title, []).append(crate)
+    return found
+
+
 def crates():
     """The crates of which anything is claimed, in the order of the page."""
-    return [crate for group in GROUPS.values() for crate in group]
+    return [crate for group in groups().values() for crate in group]
 
 
 def chosen(crate):
@@ -126,16 +102,8 @@ def shortened(by):
 
 def table():
     """The table, each group of crates after its title."""
-    unlisted = {
-        path.parent.parent.name
-        for path in TOP.glob("crates/*/src/*.rt")
-        if LISTED.search(path.read_text(encoding="utf-8"))
-    }
-    unlisted -= set(crates())
-    if unlisted:
-        sys.exit(f"proved.py: in no group: {', '.join(sorted(unlisted))}")
     yield "\n| crate | what is proved | by |\n|---|---|---|\n"
-    for title, group in GROUPS.items():
+    for title, group in groups().items():
         yield f"| **{title}** | | |\n"
         for crate in group:
             yield from (f"| {crate} | {claim} | {shortened(by)} |\n" for claim, by in chosen(crate))

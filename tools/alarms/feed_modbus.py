@@ -42,8 +42,8 @@ EXCEPTIONS = {
 logging.getLogger("pymodbus").setLevel(logging.CRITICAL)
 
 
-class NoAnswer(Exception):
-    """A device doesn't answer."""
+class Unread(Exception):
+    """The registers of a device weren't read."""
 
 
 def blocks_of(points: dict[str, Point]) -> Iterator[list[tuple[str, Point]]]:
@@ -90,7 +90,7 @@ class ModbusSource(threading.Thread):
         for block in self.blocks:
             try:
                 found += self.read(block) if not silent else bad(block, silent)
-            except NoAnswer as no:
+            except Unread as no:
                 silent = str(no)
                 found += bad(block, silent)
         return found
@@ -124,16 +124,16 @@ class ModbusSource(threading.Thread):
             answer = asking(address, count=count, **{UNIT: self.device.unit})
         except (ModbusException, OSError):
             self.client.close()
-            raise NoAnswer(f"{self.device} doesn't answer") from None
+            raise Unread(f"{self.device} doesn't answer") from None
         if isinstance(answer, Exception):
             self.client.close()
-            raise NoAnswer(f"{self.device} doesn't answer")
+            raise Unread(f"{self.device} doesn't answer")
         if answer.isError():
             return [], f"{self.device} refuses: {EXCEPTIONS.get(answer.exception_code, answer.exception_code)}"
         values = answer.bits if table in OF_BITS else answer.registers
         if len(values) < count:
             self.client.close()
-            raise NoAnswer(f"{self.device} answers with too few values")
+            raise Unread(f"{self.device} answers with too few values")
         return list(values[:count]), ""
 
 

@@ -20,8 +20,8 @@ HEARTBEAT, LONGEST = 1.0, 30.0
 Put = Callable[[list[Reading]], None]
 
 
-class Source(Protocol):
-    """What says readings."""
+class Origin(Protocol):
+    """Where readings come from."""
 
     def run(self) -> None:
         """Goes on without an end."""
@@ -70,13 +70,13 @@ class Inlet(threading.Thread):
                 self.inbox.put(readings)
 
 
-def start_apart(name: str, sources: Iterable[Callable[[Put], Source]], inbox: Inbox) -> None:
+def start_apart(name: str, sources: Iterable[Callable[[Put], Origin]], inbox: Inbox) -> None:
     """Starts each source in a process of its own. No thread may run yet: a copy would wait for its locks."""
     for one in [fork_source(name, new_source) for new_source in sources]:
         Inlet(name, one, inbox).start()
 
 
-def fork_source(name: str, new_source: Callable[[Put], Source]) -> int:
+def fork_source(name: str, new_source: Callable[[Put], Origin]) -> int:
     """Starts a source in a process of its own; where its readings come from."""
     there, here = os.pipe()
     parent = os.getpid()

@@ -17,9 +17,9 @@ one with each checkpoint. `alarms_device_damaged` is 1 where bytes of it are dam
 With --table it reads the table file each time, and ends with status 1 where the plant isn't that file's, or is on
 another device than before.
 """
+import argparse
 import collections
 import http.server
-import sys
 import threading
 import time
 from typing import Iterable, Iterator, Optional
@@ -28,6 +28,7 @@ from .client import CONSOLES, PRIORITIES, Client, Lost, NoAnswer, Overview, Othe
 from .arguments import add_port, add_slot, add_table, listen_port, new_parser
 from .connecting import HOST
 from .device_file import Damaged, DeviceFile, Head, NoDevice
+from .ending import end_of, sayer
 from .table_file import NoTable
 from .judging import Reading, read_device
 from .metrics_counts import Tally
@@ -39,6 +40,8 @@ SILENCE = 10
 # waits for a page.
 BRIEFLY = 0.1
 STATES = ("UNACK", "ACKED", "RTNUN", "LATUN", "LATAK")
+
+say = sayer("metrics")
 
 
 def metric(name: str, kind: str, page: str, samples: dict[str, float]) -> Iterator[str]:
@@ -267,6 +270,15 @@ class Handler(http.server.BaseHTTPRequestHandler):
         pass
 
 
+def show(chosen: argparse.Namespace) -> None:
+    """Shows a plant until it is ended, or until the plant isn't the table's."""
+    exporter = Exporter(chosen.listen, Plant(chosen.port, chosen.slot, chosen.table, names=False), chosen.device)
+    say(f"http://{HOST}:{exporter.server_port}/metrics")
+    exporter.serve_forever()
+    if exporter.fault:
+        raise exporter.fault
+
+
 def main() -> None:
     words = new_parser(__doc__)
     add_port(words)
@@ -281,16 +293,7 @@ def main() -> None:
     words.add_argument("--device", help="the device file, for the journal")
     add_table(words)
     chosen = words.parse_args()
-    try:
-        exporter = Exporter(chosen.listen, Plant(chosen.port, chosen.slot, chosen.table, names=False), chosen.device)
-    except (NoTable, OSError) as error:
-        sys.exit(f"metrics: {error}")
-    print(f"metrics: http://{HOST}:{exporter.server_port}/metrics", file=sys.stderr, flush=True)
-    try:
-        exporter.serve_forever()
-    except KeyboardInterrupt:
-        pass
-    sys.exit(f"metrics: {exporter.fault}" if exporter.fault else None)
+    end_of("metrics", lambda: show(chosen), interrupted=0)
 
 
 if __name__ == "__main__":
