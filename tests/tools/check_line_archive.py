@@ -1,8 +1,10 @@
 """An archive by the server's lines alone. tests/tools/history.py runs this."""
+import contextlib
 import os
 import random
 import shutil
 import signal
+import sqlite3
 import subprocess
 
 from alarms.client import CLOCK, FEED, Client
@@ -211,6 +213,19 @@ def restored(yard: Yard, _count: int) -> str:
     return "a restored copy"
 
 
+def pause(running: subprocess.Popen, database: str) -> None:
+    """Stops an archiver where it stands, but not within a transaction, whose lock would stay."""
+    while True:
+        running.send_signal(signal.SIGSTOP)
+        with contextlib.closing(sqlite3.connect(database, timeout=0.2)) as connection:
+            try:
+                connection.execute("BEGIN IMMEDIATE")
+                connection.rollback()
+                return
+            except sqlite3.OperationalError:  # locked
+                running.send_signal(signal.SIGCONT)
+
+
 def stopped(database: str, device: str) -> str:
     """Archives a device that isn't served, as the units do; what that says."""
     run = run_tool("archive", "run", device, database, "--stopped", "--existing", "--name", "plant")
@@ -243,7 +258,7 @@ def between(yard: Yard, count: int) -> str:
         hand.connect(server)
         hand.ask(60)
         await_true("all of them", lambda: last_archived(database) == len(hand.accepted))
-        running.send_signal(signal.SIGSTOP)
+        pause(running, database)
         hand.ask(40)
         hand.leave()
         server.end()
