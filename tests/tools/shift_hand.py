@@ -93,7 +93,9 @@ class Operator:
         self.done.append(press)
 
     def answered(self, does: Callable[[], None]) -> str:
-        """What is said of an action, once it is answered."""
+        """What is said of an action, once it is answered. While the list may be old nothing is offered: on a busy
+        machine that is so for a moment."""
+        self.page.until("a list of now", lambda: not self.page.js("return document.body.classList.contains('old')"))
         self.page.js("document.getElementById('said').textContent = ''")
         does()
         self.page.until("an answer", lambda: self.page.of("#said") not in ("", ".."))
@@ -157,9 +159,16 @@ class Operator:
         """An action of one alarm that wants a reason."""
         self.choose(tag)
 
+        def opens() -> bool:
+            """Presses the button where it is offered and has opened no dialog yet."""
+            is_open = self.page.find("#reason").is_displayed()
+            if not is_open and self.page.find(f"#actions [data-act='{act}']").is_enabled():
+                self.page.act(act)
+                self.counts["pressed"] += 1
+            return is_open
+
         def does() -> None:
-            self.page.act(act)
-            self.page.until("the dialog", lambda: self.page.find("#reason").is_displayed())
+            self.page.until("the dialog", opens)
             self.page.answer(reason, **fields)
 
         said = self.answered(does)
