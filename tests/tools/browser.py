@@ -32,6 +32,7 @@ PARTS = (
     "check_doors",
     "check_listen",
     "check_windows",
+    "check_late",
     "check_hand",
     "check_details",
     "check_positions",

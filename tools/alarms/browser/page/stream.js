@@ -9,9 +9,12 @@ import {SILENCE} from "./trouble.js";
 
 // Milliseconds between two tries; where somebody signed out; and where too many have asked for the page.
 const AGAIN = 700, LEFT = 2000, LOCKED = 10000;
+// Milliseconds for which a stream may be silent; and the most that a new one may take to begin.
+const LOST = 4 * SILENCE, MOST = 32000;
 
-// Each stream that is begun is another one; what an older one left to be done isn't done.
-const stream = {run: 0, stop: () => {}};
+// Each stream that is begun is another one; what an older one left to be done isn't done. Each that was begun in vain
+// gives the next one twice the time: where all is slow, a try that ends too soon makes it slower.
+const stream = {run: 0, stop: () => {}, patience: LOST};
 
 /** Begins: with a stream, or with that of another window of this browser. */
 export function listenToStream() {
@@ -21,7 +24,7 @@ export function listenToStream() {
 
 /** Connects, and takes what comes until the end. */
 async function connect() {
-  const control = new AbortController(), run = ++stream.run;
+  const control = new AbortController(), run = ++stream.run, begun = performance.now();
   me.key = kept("key") ?? me.key;
   stream.stop = () => {
     stream.run++;
@@ -30,7 +33,12 @@ async function connect() {
   };
   // A stream that is silent is taken for lost, also where the system doesn't say so.
   const watched = setInterval(() => {
-    if (performance.now() - link.heard > 4 * SILENCE) again();
+    const isHeard = link.heard > begun;
+    if (isHeard) stream.patience = LOST;
+    else shareLink();  // and no other window takes it over
+    if (performance.now() - Math.max(link.heard, begun) <= stream.patience) return;
+    if (!isHeard) stream.patience = Math.min(2 * stream.patience, MOST);
+    again();
   }, SILENCE);
   const again = link.again = () => {
     if (stream.run !== run) return;
@@ -79,7 +87,5 @@ async function enter(/** @type {number} */ run) {
   link.signedOut = status === 401;
   shareLink();
   if (status !== 200) return void setTimeout(() => enter(run), status === 429 ? LOCKED : AGAIN);
-  // a new stream has its time to begin
-  if (!link.refused) link.heard = Math.max(link.heard, performance.now() - 3 * SILENCE);
   connect();
 }
