@@ -110,7 +110,7 @@ def whole(page: Page, width: int, height: int, language: str) -> int:
     return rows
 
 
-def told(yard: Yard, _count: int) -> str:
+def reasons(yard: Yard, _count: int) -> str:
     """On each screen a reason is whole in the view of what is out of service, and no area's name ends its line within a
     word."""
     plant = Plant(yard)
@@ -140,4 +140,4 @@ def told(yard: Yard, _count: int) -> str:
     return f"reasons and areas on {len(SCREENS)} screens"
 
 
-CHECKS = {"tablet": tablet, "whole": told}
+CHECKS = {"tablet": tablet, "reasons": reasons}
