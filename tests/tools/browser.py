@@ -37,6 +37,7 @@ PARTS = (
     "check_details",
     "check_positions",
     "check_leaving",
+    "check_proxy",
     "check_two_desks",
     "check_language",
     "check_screen",
