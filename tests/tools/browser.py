@@ -32,10 +32,12 @@ PARTS = (
     "check_doors",
     "check_listen",
     "check_windows",
+    "check_late",
     "check_hand",
     "check_details",
     "check_positions",
     "check_leaving",
+    "check_proxy",
     "check_two_desks",
     "check_language",
     "check_screen",
@@ -47,6 +49,17 @@ PARTS = (
 )
 # What a short run is, and a whole one isn't.
 SHORT = ("brief",)
+
+
+def all_checks() -> dict[str, Callable]:
+    """The checks of the parts by their names, no two of which are the same."""
+    checks: dict[str, Callable] = {}
+    for part in PARTS:
+        if os.path.exists(os.path.join(os.path.dirname(os.path.abspath(__file__)), f"{part}.py")):
+            some = importlib.import_module(part).CHECKS
+            assert not checks.keys() & some.keys(), f"{part}: {checks.keys() & some.keys()} are names of others"
+            checks |= some
+    return checks
 
 
 def chosen(argv: list[str], checks: dict) -> tuple[list[str], list[str]]:
@@ -102,13 +115,7 @@ def main() -> None:
     from lib.program import Wrong, begin, finish
     from selenium.common.exceptions import WebDriverException
 
-    here = os.path.dirname(os.path.abspath(__file__))
-    checks = {
-        name: check
-        for part in PARTS
-        if os.path.exists(os.path.join(here, f"{part}.py"))
-        for name, check in importlib.import_module(part).CHECKS.items()
-    }
+    checks = all_checks()
     argv, names = chosen(take_options(sys.argv), checks)
     program, count, folder = begin("browser", argv, 20, 5)
     began = time.monotonic()

@@ -155,6 +155,9 @@ def walks_actions(plant: Plant, page: Page, walk: Walk) -> None:
     page.act("SHELVE")
     walk.look("a dialog of two alarms")
     page.click("#asking-leave")
+    page.of_module("orders", "void page.ask('RESET', [arguments[0]])", plant.numbers["TI-102"])
+    page.until("why it isn't done", lambda: "TI-102: " in page.of("#said"))
+    walk.look("a refusal")
     plant.comes("TI-103")
     walk.look("what is new")
 

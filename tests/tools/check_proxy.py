@@ -1,5 +1,6 @@
 """The alarm list behind nginx, as its page sets it up. tests/tools/browser.py runs these checks."""
 import os
+import re
 import shutil
 import socket
 import stat
@@ -9,11 +10,14 @@ from pathlib import Path
 from typing import Callable
 
 from lib.browsers import List, Page, Plant
-from lib.places import DEPLOY
+from lib.places import DEPLOY, DOCS
 from lib.program import check
 from lib.tools import Yard, await_true, started
 
 
+# With this Chromium keeps a proxy's password for longer than an hour. And that hour, shortened.
+KEEPS = re.search(r"--disable-features=\S+(?=`)", (DOCS / "CONTROL_ROOM.md").read_text(encoding="utf-8"))[0]
+HOUR = "--enable-features=DIPS:timer_delay/15s/grace_period/5s"
 PASSWORDS = {"anna": "of anna", "ben": "of ben", "carl": "of carl"}
 
 
@@ -136,9 +140,9 @@ def proxy(yard: Yard, _count: int) -> str:
     return f"a proxy; of eight windows of a browser one acknowledges in {took:.1f} s"
 
 
-def proxied(yard: Yard, port: int, user: str) -> Page:
-    """The page as a user of the proxy."""
-    words = ("--ignore-certificate-errors", "--host-resolver-rules=MAP alarms.example 127.0.0.1")
+def proxied(yard: Yard, port: int, user: str, *more: str) -> Page:
+    """The page as a user of the proxy, in a Chromium that is started as docs/CONTROL_ROOM.md says, or otherwise."""
+    words = ("--ignore-certificate-errors", "--host-resolver-rules=MAP alarms.example 127.0.0.1", *(more or (KEEPS,)))
     page = Page(yard, f"https://{user}:{PASSWORDS[user].replace(' ', '%20')}@alarms.example:{port}/", 1280, 720, *words)
     page.driver.get(f"https://alarms.example:{port}/")
     return page
@@ -276,3 +280,35 @@ def back_by_itself(listed: List, page: Page, plant: Plant) -> None:
     page.act("ACK")
     page.shows("LI-208", "Acked")
     check(page.js("return window.same") == 1 and plant.shown("LI-208") == "ACKED", "the page was loaded again")
+
+
+def forgets(yard: Yard, _count: int) -> str:
+    """Chromium forgets a proxy's password each hour: the page says that it is asked for, and goes on with it. Started
+    as docs/CONTROL_ROOM.md says it forgets nothing."""
+    if not shutil.which("nginx") or not shutil.which("openssl"):
+        return "no nginx: no proxy was tried (Debian: nginx, openssl)"
+    plant = Plant(yard)
+    plant.comes("TI-101")
+    port, path = plant.port + 17 + 500, yard.path("socket")
+    place = f"https://alarms.example:{port}"
+    listed = List(yard, plant.device, plant.port, "--socket", path, "--proxy", place, listen=False)
+    process = nginx_of(yard, path, port)
+    page, other = proxied(yard, port, "anna", HOUR, KEEPS), proxied(yard, port, "ben", HOUR)
+    page.js("window.lost = 0; setInterval(() => { lost += document.body.classList.contains('old'); }, 100)")
+    other.until("no password", lambda: "NO LIST" in other.of("#trouble") and "the password" in other.of("#trouble"), 60)
+    plant.comes("TI-102")
+    page.shows("TI-102", "Unack")
+    check(page.js("return window.lost") == 0, "with", KEEPS, "it was lost")
+    check(other.row("TI-102") is None, "without a password it goes on")
+    other.driver.get(place.replace("://", f"://ben:{PASSWORDS['ben'].replace(' ', '%20')}@") + "/")
+    other.driver.get(place + "/")
+    other.shows("TI-102", "Unack")
+    for one in (page, other):
+        one.end()
+    process.terminate()
+    listed.end()
+    plant.end()
+    return "a password that is forgotten, and one that isn't"
+
+
+CHECKS = {"forgets": forgets}

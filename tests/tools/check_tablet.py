@@ -1,8 +1,9 @@
-"""What stands on buttons on a tablet, and the rows that they leave. tests/tools/browser.py runs this."""
+"""What is whole on a tablet: buttons and rows, the words of areas, and reasons, which are whole on each screen.
+tests/tools/browser.py runs these checks."""
 import time
 
-from lib.browsers import List, Page, Plant
-from check_looks import WHOLE
+from lib.browsers import List, Page, Plant, engineer
+from check_looks import SCREENS, WHOLE
 from check_screen import FLOOD, LEAST_TOUCHED, NAMES, OF_AREA, largest_table, longest_files, screen
 from lib.program import check
 from selenium.webdriver import Keys
@@ -43,6 +44,21 @@ const faultOf = one => {
 };
 return [...document.querySelectorAll('button')].filter(isSeen)
     .map(one => [faultOf(one), one.textContent, one.id || one.parentElement.id]).filter(one => one[0])"""
+
+
+# As long as a reason with a permit's number is; whether all of it is seen; and the words that have two lines each.
+REASON = "transmitter removed, permit 4711"
+ALL_SEEN = """const one = document.querySelector('#rows td.reason .two');
+return one.scrollHeight <= one.clientHeight + 1 && one.scrollWidth <= one.clientWidth + 1
+  && one.parentElement.scrollWidth <= one.parentElement.clientWidth + 1"""
+BROKEN = """const range = document.createRange();
+const isBroken = (node, {0: word, index}) => {
+    range.setStart(node, index);
+    range.setEnd(node, index + word.length);
+    return new Set([...range.getClientRects()].map(part => part.top)).size > 1;
+};
+const nodes = [...document.querySelectorAll('#rows td.area .two')].map(one => one.firstChild);
+return nodes.flatMap(node => [...node.data.matchAll(/[^ ]+/g)].filter(word => isBroken(node, word))).map(String)"""
 
 
 def tablet(yard: Yard, _count: int) -> str:
@@ -94,4 +110,34 @@ def whole(page: Page, width: int, height: int, language: str) -> int:
     return rows
 
 
-CHECKS = {"tablet": tablet}
+def reasons(yard: Yard, _count: int) -> str:
+    """On each screen a reason is whole in the view of what is out of service, and no area's name ends its line within a
+    word."""
+    plant = Plant(yard)
+    plant.comes("TI-301", "TI-601")
+    listed = engineer(yard, plant)
+    page = Page(yard, listed.url)
+    page.shows("TI-301", "Unack")
+    page.rest()
+    page.choose("TI-301")
+    page.act("OOS ON")
+    page.answer(REASON)
+    page.hides("TI-301")
+    plant.comes("TI-302")
+    for width, height, is_touched in SCREENS:
+        screen(page, width, height, is_touched)
+        page.turn("service")
+        page.until("a reason", lambda: page.tags() == ["TI-301"])
+        check(page.row("TI-301")["cells"]["reason"] == REASON, "the reason is", page.row("TI-301")["cells"])
+        check(page.js(ALL_SEEN), width, height, "cuts the reason")
+        page.turn("alarms")
+        page.until("two alarms", lambda: {row["cells"]["area"] for row in page.rows()} >= {"Hydrotreater"})
+        broken = page.js(BROKEN)
+        check(not broken, width, height, "breaks areas within a word:", broken)
+    page.end()
+    listed.end()
+    plant.end()
+    return f"reasons and areas on {len(SCREENS)} screens"
+
+
+CHECKS = {"tablet": tablet, "reasons": reasons}

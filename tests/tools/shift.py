@@ -17,6 +17,7 @@ numbers. How soon an annunciation is drawn behind the feed's line is measured be
 browser.py needs, and nginx and openssl.
 """
 import argparse
+import itertools
 import os
 import random
 import shutil
@@ -27,7 +28,8 @@ import subprocess
 import sys
 import time
 import traceback
-from typing import Callable, Optional
+from collections import Counter
+from typing import Callable, Iterator, Optional
 
 from lib import chromium
 from lib.tools import Yard, end_all
@@ -36,6 +38,21 @@ from lib.tools import Yard, end_all
 WITHIN = 2.0
 DESKS, ALL = ("Crude desk", "Conversion desk", "Tank desk"), ("Shift engineer",)
 REMARK = "chattering alarms are shelved, permits lie on the desk"
+
+
+def unlike(found: list[tuple], presses: list[list[tuple]]) -> Iterator[tuple[list[tuple], list[tuple]]]:
+    """The notes and the actions of each press whose notes aren't of its actions. Actions of one press are in the order
+    of the rows as it came, which may be another one than was read before: there the numbers alone are in order."""
+    notes = iter(found)
+    for press in presses:
+        noted = list(itertools.islice(notes, len(press)))
+        if in_any_order(noted) != in_any_order(press):
+            yield noted, press
+
+
+def in_any_order(actions: list[tuple]) -> tuple[list[int], Counter[tuple]]:
+    """The numbers of actions in their order, and what they are beside that."""
+    return [one[0] for one in actions], Counter(one[1:] for one in actions)
 
 
 class Shift:
@@ -195,9 +212,9 @@ class Shift:
 
         with sqlite3.connect(self.notes) as kept:
             query = "SELECT number, user, role, word, tag, value, reason, outcome FROM note ORDER BY id"
-            found, wanted = list(kept.execute(query)), [(*one, "OK") for one in self.hand.done]
-            wrong = [pair for pair in zip(found, wanted) if pair[0] != pair[1]]
-            check(len(found) == len(wanted) and not wrong, len(found), "notes of", len(wanted), "actions:", wrong[:3])
+            found, presses = list(kept.execute(query)), [[(*one, "OK") for one in press] for press in self.hand.done]
+            actions, wrong = sum(map(len, presses)), list(unlike(found, presses))
+            check(len(found) == actions and not wrong, len(found), "notes of", actions, "actions:", wrong[:3])
             rows = list(kept.execute("SELECT position, word, user, remark FROM shift ORDER BY id"))
             check(rows == self.hand.shifts, "of positions there is noted", rows)
 

@@ -54,8 +54,9 @@ class Operator:
     def __init__(self, page: Page, world: World, dice: random.Random, folder: Optional[str]):
         self.page, self.world, self.dice, self.folder = page, world, dice, folder
         self.user, self.role = "", ""
-        # each action with the number that the server has to have given it, and the changes of positions
-        self.done: list[tuple] = []
+        # by presses of a button or key: each action with the number that the server has to have given it. And the
+        # changes of positions
+        self.done: list[list[tuple]] = []
         self.shifts: list[tuple] = []
         self.reasons: dict[tuple[str, str], tuple[str, str]] = {}
         self.counts: collections.Counter[str] = collections.Counter()
@@ -80,17 +81,21 @@ class Operator:
             if 0 < at - told[tag][0] < BESIDE:
                 self.delays.append(at - told[tag][0])
 
-    def does(self, word: str, tag: str, value: Optional[int] = None, reason: str = "") -> None:
-        """Counts an action that is done now."""
-        given = {"OOS": ["OFF", "ON"][bool(value)]}.get(word, value)
-        self.world.does(word, tag, given)
-        self.done.append((self.world.count.count, self.user, self.role, word, tag, value, reason))
-        self.counts[word] += 1
-        if reason:
-            self.reasons[word, tag] = self.user, reason
+    def does(self, word: str, *tags: str, value: Optional[int] = None, reason: str = "") -> None:
+        """Counts the actions of one press, which are done now."""
+        given, press = {"OOS": ["OFF", "ON"][bool(value)]}.get(word, value), []
+        for tag in tags:
+            self.world.does(word, tag, given)
+            press.append((self.world.count.count, self.user, self.role, word, tag, value, reason))
+            self.counts[word] += 1
+            if reason:
+                self.reasons[word, tag] = self.user, reason
+        self.done.append(press)
 
     def answered(self, does: Callable[[], None]) -> str:
-        """What is said of an action, once it is answered."""
+        """What is said of an action, once it is answered. While the list may be old nothing is offered: on a busy
+        machine that is so for a moment."""
+        self.page.until("a list of now", lambda: not self.page.js("return document.body.classList.contains('old')"))
         self.page.js("document.getElementById('said').textContent = ''")
         does()
         self.page.until("an answer", lambda: self.page.of("#said") not in ("", ".."))
@@ -108,8 +113,7 @@ class Operator:
         page.until(offered, lambda: page.of("[data-act=SHOWN] span") == offered)
         said = self.answered(lambda: page.press("A"))
         check(said == f"{tags[0] if len(tags) == 1 else len(tags)} acknowledged", "of", tags, "it says", said)
-        for tag in tags:
-            self.does("ACK", tag)
+        self.does("ACK", *tags)
 
     def aim(self) -> None:
         """One row, while the plant goes on."""
@@ -148,22 +152,28 @@ class Operator:
         self.choose(*tags)
         said = self.answered(lambda: self.page.act("RESET"))
         check(said == f"{tags[0] if len(tags) == 1 else len(tags)} reset", "of", tags, "it says", said)
-        for tag in tags:
-            self.does("RESET", tag)
+        self.does("RESET", *tags)
         self.page.press(Keys.ESCAPE)
 
     def dialog(self, word: str, act: str, tag: str, value: Optional[int], reason: str, **fields: str) -> None:
         """An action of one alarm that wants a reason."""
         self.choose(tag)
 
+        def opens() -> bool:
+            """Presses the button where it is offered and has opened no dialog yet."""
+            is_open = self.page.find("#reason").is_displayed()
+            if not is_open and self.page.find(f"#actions [data-act='{act}']").is_enabled():
+                self.page.act(act)
+                self.counts["pressed"] += 1
+            return is_open
+
         def does() -> None:
-            self.page.act(act)
-            self.page.until("the dialog", lambda: self.page.find("#reason").is_displayed())
+            self.page.until("the dialog", opens)
             self.page.answer(reason, **fields)
 
         said = self.answered(does)
         check(said.startswith(f"{tag} "), act, tag, "is answered", said)
-        self.does(word, tag, value, reason)
+        self.does(word, tag, value=value, reason=reason)
         self.page.press(Keys.ESCAPE)
 
     def find(self, tag: str) -> None:

@@ -3,7 +3,7 @@
 import {drawActions, prepareActions} from "./actions.js";
 import {arrange} from "./arrange.js";
 import {prepareDialog} from "./asking.js";
-import {measureTags, prepareColumns} from "./columns.js";
+import {measureColumns, prepareColumns} from "./columns.js";
 import {drawDetail} from "./detail.js";
 import {$, allOf, dialog, mark} from "./dom.js";
 import {draw, drawBy} from "./draw.js";
@@ -34,7 +34,7 @@ function drawShown() {
 function prepareList() {
   $("list").addEventListener("scroll", drawShown);
   window.addEventListener("resize", () => {
-    measureTags();
+    measureColumns();
     drawShown();
   });
   document.addEventListener("visibilitychange", draw);

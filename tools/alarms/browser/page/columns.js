@@ -1,4 +1,4 @@
-// The heads of the columns, by which the list is sorted, and how wide the tags are.
+// The heads of the columns, by which the list is sorted, and how wide the tags' and the areas' are.
 import {$, allOf, button, made, target} from "./dom.js";
 import {t, w} from "./language.js";
 import {areSeveral, isJournal, look, plants} from "./state.js";
@@ -46,21 +46,28 @@ export function drawColumns() {
   place.dataset.key = key;
   place.replaceChildren(...all.map(head));
   if (focused !== undefined) allOf(`[data-sort="${focused}"]`, place)[0]?.focus();
-  measureTags();
+  measureColumns();
   return true;
 }
 
-// The tags are whole: their column is as wide as the longest one, and one that is wider than a screen has room for has
-// a second line.
-export function measureTags() {
+/** How wide the widest of some texts is, in the font of an element. */
+function widest(/** @type {string[]} */ texts, /** @type {Element} */ like) {
   const context = document.createElement("canvas").getContext("2d");
-  if (!context) return;
-  context.font = getComputedStyle(allOf(".tag-font")[0]).font;
   let most = 0;
-  for (const {table} of plants) for (const {tag} of table) most = Math.max(most, context.measureText(tag).width);
-  document.documentElement.style.setProperty("--tag", `${Math.ceil(most) + 18}px`);
-  const column = allOf("#columns .c-tag")[0];
-  document.body.classList.toggle("long-tags", column !== undefined && column.offsetWidth < most + 18);
+  if (context) context.font = getComputedStyle(like).font;
+  for (const text of texts) most = Math.max(most, context?.measureText(text).width ?? 0);
+  return Math.ceil(most);
+}
+
+// The tags are whole: their column is as wide as the longest one, and one that is wider than a screen has room for has
+// a second line. Where areas' names have several lines, none of them ends within a word.
+export function measureColumns() {
+  const style = document.documentElement.style, column = allOf("#columns .c-tag")[0];
+  const tag = widest(plants.flatMap(plant => plant.table.map(alarm => alarm.tag)), allOf(".tag-font")[0]) + 18;
+  const word = widest(plants.flatMap(plant => plant.areas.flatMap(name => name.split(" "))), document.body) + 10;
+  style.setProperty("--tag", `${tag}px`);
+  style.setProperty("--word", `${word}px`);
+  document.body.classList.toggle("long-tags", column !== undefined && column.offsetWidth < tag);
 }
 
 /** Listens to the heads. */

@@ -1,7 +1,7 @@
 // Takes what the stream tells: who the operator is, which plants there are, all rows of one, and what changed.
 import {kept} from "./kept.js";
 import {leaveDialog} from "./asking.js";
-import {measureTags} from "./columns.js";
+import {measureColumns} from "./columns.js";
 import {touch} from "./draw.js";
 import {t} from "./language.js";
 import {bye} from "./leaving.js";
@@ -40,7 +40,7 @@ function take(/** @type {any} */ news, /** @type {boolean} */ isWhole) {
     const table = news.table.map((/** @type {any[]} */ told) => readAlarm(told, news.details)), {era, areas} = news;
     const isDetailed = Object.keys(news.details).length > 0;
     Object.assign(plant, {era, areas, table, isDetailed, rows: [], events: []});
-    measureTags();
+    measureColumns();
   }
   for (const told of news.rows) {
     const row = readRow(told, plant), isFresh = isUnacknowledged(row) && plant.rows[row.n]?.stamp !== row.stamp;
