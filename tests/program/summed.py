@@ -88,6 +88,7 @@ def goes_on(program: str, course: Course, path: str) -> None:
     """The desk does the whole course over a fresh device of version 03, and spells it as this script does."""
     fresh = SummedDevice(course.fresh)
     fresh.spell_03()
+    os.remove(path)
     run = run_words(program, ["format", path, PLANT, "--version", "03"])
     check(run.returncode == 0 and run.stdout == b"formatted 4 2 4116\n", "format", run.stdout, run.stderr)
     check(SummedDevice(path).bytes == fresh.bytes, "format spells 03 otherwise than FORMAT.md")
