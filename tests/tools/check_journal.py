@@ -1,8 +1,10 @@
 """alm_journal against the built program. tests/tools/clients.py runs these checks."""
+import contextlib
 import os
 import re
 import shutil
 import signal
+import sqlite3
 import subprocess
 import sys
 import time
@@ -124,6 +126,12 @@ def asked(yard: Yard) -> str:
         wanted.append(" ".join([str(number), word, *named]) + f"  (slot {slot})")
     run = tool("alm_journal", device, "--from", len(asked_for) - 50)
     check(run.stdout.splitlines() == wanted[-51:], "the trail is", run.stdout[-300:], run.stderr)
+    run = tool("alm_archive", "run", device, yard.path("asked.sqlite"), "--stopped")
+    check(run.returncode == 0, "the archive:", run.stderr)
+    with contextlib.closing(sqlite3.connect(yard.path("asked.sqlite"))) as archive:
+        rows = archive.execute("SELECT slot FROM action ORDER BY number DESC LIMIT 51").fetchall()
+    slots = [slot for slot, _ in reversed(asked_for)]
+    check([slot for slot, in rows] == slots[:51], "the archive has the slots", rows)
     return "who asked"
 
 
