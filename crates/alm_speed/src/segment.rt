@@ -19,7 +19,7 @@ const FRAMES: u32 = 4077;
 const ROUNDS: u32 = 20;
 
 /// Values of 256 alarms.
-fn actions(alloc: Global) -> Result<Vec<Action>> {
+fn actions(alloc: Global) -> Result<Vec<Asked>> {
     let value = Reading::new(1).ok_or_else(|| anyhow!("reading"))?;
     let mut actions = Vec::with_capacity(alloc, 256)?;
     for number in 0..256u32 {
