@@ -7,7 +7,7 @@ use Rattle.alm_codec.specs.Actions.{asked_text}
 use Rattle.alm_codec.specs.declared.asked.Asked.{Asked}
 use Rattle.alm_codec.specs.declared.version.Version.{Version}
 use Rattle.alm_codec.specs.Versions.{closed_gate, sum_text}
-use Rattle.alm_codec.specs.Frames.{IsAsked, texts_of, frame_head, frame_text, frame_body, frame_head_len}
+use Rattle.alm_codec.specs.Frames.{IsAskedAction, texts_of, frame_head, frame_text, frame_body, frame_head_len}
 use Rattle.alm_codec.specs.Writing.{Wrote}
 use Rattle.alm_codec.proofs.Writing.{Wrote-then}
 
@@ -17,8 +17,8 @@ one_more xs i x lt e = ap (λ (y : Asked). take i xs ++ y ∷ []) e ∙ sym (tak
 pub text_more : (version : Version) (xs : List Asked) (i : ℕ) (x : Asked) → i < length xs → x ≡ get_or xs i x → texts_of version (take i xs) ++ asked_text version x ≡ texts_of version (take (i + 1) xs)
 text_more version xs i x lt e = flat_map_more (asked_text version) [] (take i xs) x ∙ ap (texts_of version) (one_more xs i x lt e)
 
-pub limits_more : (xs : List Asked) (i : ℕ) (x : Asked) → i < length xs → x ≡ get_or xs i x → All IsAsked (take i xs) → IsAsked x → All IsAsked (take (i + 1) xs)
-limits_more xs i x lt e h p = subst (All IsAsked) (one_more xs i x lt e) (All-append IsAsked (take i xs) (x ∷ []) h (All-from_recursion IsAsked (x ∷ []) (p, tt)))
+pub limits_more : (xs : List Asked) (i : ℕ) (x : Asked) → i < length xs → x ≡ get_or xs i x → All IsAskedAction (take i xs) → IsAskedAction x → All IsAskedAction (take (i + 1) xs)
+limits_more xs i x lt e h p = subst (All IsAskedAction) (one_more xs i x lt e) (All-append IsAskedAction (take i xs) (x ∷ []) h (All-from_recursion IsAskedAction (x ∷ []) (p, tt)))
 
 pub head_parts : (p q r a b c : List ℕ) → p ≡ a → q ≡ b → r ≡ c → p ++ q ++ r ≡ a ++ b ++ c
 head_parts p q r a b c e f g = ap (λ (t : List ℕ). t ++ q ++ r) e ∙ ap (λ (t : List ℕ). a ++ t ++ r) f ∙ ap (λ (t : List ℕ). a ++ b ++ t) g

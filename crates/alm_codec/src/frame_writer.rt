@@ -2,7 +2,7 @@
 
 ghost use Rattle.std.specs.Prelude.{◌≡◌, ◌+◌, ◌*◌, ◌<◌, ◌≤◌, ◌++◌, All, length, take, drop};
 ghost use Rattle.alm_types.specs.Sizes.{most_entries};
-ghost use Rattle.alm_codec.specs.Frames.{IsAsked, IsFrame, count_unit, first_text, frame_body, frame_head, frame_head_len, texts_of};
+ghost use Rattle.alm_codec.specs.Frames.{IsAskedAction, IsFrame, count_unit, first_text, frame_body, frame_head, frame_head_len, texts_of};
 ghost use Rattle.alm_codec.specs.Versions.{IsSaid, sum_len, sum_text};
 ghost use Rattle.alm_codec.specs.Writing.{Wrote};
 
@@ -18,7 +18,7 @@ fn put_actions(out: &mut [u8], at: usize, actions: &[Asked], version: Version) -
     requires { at + 16 * length actions.now ≤ length out.old }
     ensures end { result ≡ at + 16 * length actions.now }
     ensures text { Wrote out.old out.new at result (texts_of version actions.now) }
-    ensures limits { All IsAsked actions.now }
+    ensures limits { All IsAskedAction actions.now }
 {
     let mut end = at;
     for action in actions {

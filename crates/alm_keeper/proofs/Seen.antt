@@ -8,7 +8,7 @@ use Rattle.alm_codec.specs.declared.version.Version.{Version}
 use Rattle.alm_codec.specs.Frames.{asked_actions}
 use Rattle.alm_model.specs.Judging.{accepted_of}
 use Rattle.alm_segment.proofs.Pushed.{asked_length}
-use Rattle.alm_keeper.specs.Batch.{asked_of}
+use Rattle.alm_keeper.specs.Batch.{accepted_asked}
 use Rattle.alm_keeper.proofs.Tried.{asked_accepted}
 use Rattle.alm_model.specs.Step.{run}
 use Rattle.alm_segment.specs.Course.{frame_len}
@@ -40,7 +40,7 @@ after_checkpoint a n = λ i. record { version = newer a.version; epoch = a.epoch
     left = omega arith
 
 module _ {D : Type 0} (disk : D) where
-  pub begins_seen : (result : Result Unit Refused) (version : Version) (entries : List Entry) (old new : Book) → Begins result (asked_of version entries) old new → BeginsCommit result (accepted_of entries) (keeper_of disk old) (keeper_of disk new)
+  pub begins_seen : (result : Result Unit Refused) (version : Version) (entries : List Entry) (old new : Book) → Begins result (accepted_asked version entries) old new → BeginsCommit result (accepted_of entries) (keeper_of disk old) (keeper_of disk new)
   begins_seen (Ok _) version entries old new b = λ i. record {
     disk = disk;
     stage = b.1 i;

@@ -17,7 +17,7 @@ use Rattle.alm_codec.specs.declared.asked.Asked.{Asked}
 use Rattle.alm_codec.specs.declared.version.Version.{Version}
 use Rattle.alm_codec.specs.Frames.{IsFrame, asked_actions, frame_body}
 use Rattle.alm_codec.specs.Versions.{AreBorne, IsSaid}
-use Rattle.alm_keeper.specs.Batch.{asked_if, asked_of, or_place, tried_one, tried_batch, Tries, TriesAll}
+use Rattle.alm_keeper.specs.Batch.{asked_if, accepted_asked, or_place, tried_one, tried_batch, Tries, TriesAll}
 use Rattle.alm_keeper.specs.Keeping.{Committing}
 use Rattle.alm_keeper.specs.Stand.{Account, TakesFrame}
 use Rattle.alm_model.proofs.Runs.{admitted_join, run_append}
@@ -33,10 +33,10 @@ module _ (version : Version) (entries : List Entry) (place : ℕ) (e : Entry) (l
   pub same_none : (q now : Condensed) → tried_batch q 0 entries ≡ tried_batch now place (drop place entries) → tried_one now place e.verdict ≡ Err place → tried_batch q 0 entries ≡ Err place
   same_none q now same t = same ∙ ap (tried_batch now place) at ∙ ap (λ (r : Result Condensed ℕ). r >>= λ x. tried_batch x (place + 1) (drop (place + 1) entries)) t
 
-  pub asked_more : (now new : Condensed) (before after : List Asked) → asked_of version entries ≡ before ++ asked_of version (drop place entries) → Tries version now new e before after → asked_of version entries ≡ after ++ asked_of version (drop (place + 1) entries)
+  pub asked_more : (now new : Condensed) (before after : List Asked) → accepted_asked version entries ≡ before ++ accepted_asked version (drop place entries) → Tries version now new e before after → accepted_asked version entries ≡ after ++ accepted_asked version (drop (place + 1) entries)
   asked_more now new before after so_far t =
-      so_far ∙ ap (λ (l : List Entry). before ++ asked_of version l) at ∙ sym (append_assoc before (asked_if version e.slot e.verdict) (asked_of version (drop (place + 1) entries)))
-      ∙ ap (λ (l : List Asked). l ++ asked_of version (drop (place + 1) entries)) (sym t.asked)
+      so_far ∙ ap (λ (l : List Entry). before ++ accepted_asked version l) at ∙ sym (append_assoc before (asked_if version e.slot e.verdict) (accepted_asked version (drop (place + 1) entries)))
+      ∙ ap (λ (l : List Asked). l ++ accepted_asked version (drop (place + 1) entries)) (sym t.asked)
 
 -- ---- with who asked, and without
 
@@ -44,9 +44,9 @@ when_asked : (version : Version) (slot : ℕ) (v : Verdict) → asked_actions (a
 when_asked version slot (Accepted a) = refl
 when_asked version slot (Refused why count) = refl
 
-pub asked_accepted : (version : Version) (entries : List Entry) → asked_actions (asked_of version entries) ≡ accepted_of entries
+pub asked_accepted : (version : Version) (entries : List Entry) → asked_actions (accepted_asked version entries) ≡ accepted_of entries
 asked_accepted version [] = refl
-asked_accepted version (e ∷ entries) = map-append (λ (x : Asked). x.action) (asked_if version e.slot e.verdict) (asked_of version entries) ∙ (λ i. when_asked version e.slot e.verdict i ++ asked_accepted version entries i)
+asked_accepted version (e ∷ entries) = map-append (λ (x : Asked). x.action) (asked_if version e.slot e.verdict) (accepted_asked version entries) ∙ (λ i. when_asked version e.slot e.verdict i ++ asked_accepted version entries i)
 
 -- the actions after one entry more
 after_entry : (version : Version) (now new : Condensed) (e : Entry) (before after : List Asked) → Tries version now new e before after → asked_actions after ≡ asked_actions before ++ when_accepted e.verdict
@@ -73,10 +73,10 @@ accepted_few (e ∷ entries) = omega (arith, accepted_few entries, length-append
     one (Refused why count) = omega arith
 
 -- an action is one, with who asked or without
-pub asked_long : (version : Version) (entries : List Entry) → length (asked_of version entries) ≡ length (accepted_of entries)
-asked_long version entries = sym (asked_length (asked_of version entries)) ∙ ap length (asked_accepted version entries)
+pub asked_long : (version : Version) (entries : List Entry) → length (accepted_asked version entries) ≡ length (accepted_of entries)
+asked_long version entries = sym (asked_length (accepted_asked version entries)) ∙ ap length (asked_accepted version entries)
 
-pub asked_few : (version : Version) (entries : List Entry) → length (asked_of version entries) ≤ length entries
+pub asked_few : (version : Version) (entries : List Entry) → length (accepted_asked version entries) ≤ length entries
 asked_few version entries = omega (arith, asked_long version entries, accepted_few entries)
 
 -- a batch of admitted actions is taken

@@ -34,9 +34,9 @@ abbrev pub asked_if : Version → (slot : ℕ) → Verdict → List Asked
 asked_if version slot (Accepted a) = record { asker = asker_in version slot; action = a } ∷ []
 asked_if version slot (Refused why count) = []
 
-abbrev pub asked_of : Version → List Entry → List Asked
-asked_of version [] = []
-asked_of version (e ∷ entries) = asked_if version e.slot e.verdict ++ asked_of version entries
+abbrev pub accepted_asked : Version → List Entry → List Asked
+accepted_asked version [] = []
+accepted_asked version (e ∷ entries) = asked_if version e.slot e.verdict ++ accepted_asked version entries
 
 -- what trying one entry comes to
 pub record Tries (version : Version) (old new : Condensed) (entry : Entry) (before after : List Asked) : Type 0 where
@@ -49,7 +49,7 @@ pub record Tries (version : Version) (old new : Condensed) (entry : Entry) (befo
 -- what trying all of them comes to
 pub record TriesAll (version : Version) (old new : Condensed) (entries : List Entry) (found : List Asked) : Type 0 where
   pub tried : tried_batch old 0 entries ≡ Ok new
-  pub asked : found ≡ asked_of version entries
+  pub asked : found ≡ accepted_asked version entries
   pub said : All (IsSaid version) found
   pub admitted : AreAdmitted old (asked_actions found)
   pub plant : new ≡ run old (asked_actions found)

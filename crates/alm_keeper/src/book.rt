@@ -5,7 +5,7 @@ ghost use Rattle.alm_keeper.specs.Stages.{IsWorking, first_stage};
 ghost use Rattle.alm_checkpoint.specs.Layouts.{half_len};
 ghost use Rattle.alm_segment.specs.Course.{frame_len};
 ghost use Rattle.alm_model.specs.Judging.{accepted_of};
-ghost use Rattle.alm_keeper.specs.Batch.{asked_of};
+ghost use Rattle.alm_keeper.specs.Batch.{accepted_asked};
 ghost use Rattle.alm_keeper.specs.Stand.{other_at, end_of_half, FitsFrame, TakesFrame, with_commit};
 ghost use Rattle.alm_keeper.specs.declared.stage.Stage.{Stage};
 ghost use Rattle.alm_keeper.specs.declared.stage.Work.{Work};
@@ -135,7 +135,7 @@ impl Book {
         requires in_order { InOrder self.old }
         ensures answer { result ≡
             begin_answer (phase_of self.old.stage self.old.work) self.old.stored batch.now }
-        ensures begins { Begins result (asked_of self.old.version batch.now.entries) self.old self.new }
+        ensures begins { Begins result (accepted_asked self.old.version batch.now.entries) self.old self.new }
         ensures in_order { InOrder self.new }
     {
         match phase_of(self.stage, self.work) {

@@ -14,7 +14,7 @@ use Rattle.alm_codec.specs.declared.version.Version.{Version}
 use Rattle.alm_codec.specs.Versions.{IsBorne, AreBorne, IsSaid, is_open, sum_text}
 use Rattle.alm_codec.specs.declared.asked.Asked.{Asked}
 use Rattle.alm_codec.specs.Actions.{asked_at, asked_text}
-use Rattle.alm_codec.specs.Frames.{IsAsked, asked_actions, frame_head, frame_text, head_at, texts_of}
+use Rattle.alm_codec.specs.Frames.{IsAskedAction, asked_actions, frame_head, frame_text, head_at, texts_of}
 use Rattle.alm_codec.specs.Reading.{IsBytes}
 use Rattle.alm_codec.proofs.Bytes.{IsBytes-drop, IsBytes-take}
 use Rattle.alm_codec.proofs.Actions.{asked_takes}
@@ -42,7 +42,7 @@ record Several (version : Version) (q : Condensed) (epoch count n : ℕ) (bytes 
   after : List ℕ
   number : length list ≡ n
   taken : Takes bytes (texts_of version list) after
-  limits : AllByRecursion IsAsked list
+  limits : AllByRecursion IsAskedAction list
   borne : AllByRecursion (IsBorne version) (asked_actions list)
   said : AllByRecursion (IsSaid version) list
   admitted : AreAdmitted q (asked_actions list)
@@ -135,7 +135,7 @@ with_frame version q epoch count n own bytes rest end opened h s f =
       left = f.left;
       are_frames = (
         opened,
-        record { fits = h.fits; some = omega (arith, h.some, s.number); few = omega (arith, h.few, s.number); limits = All-from_recursion IsAsked s.list s.limits; askers = All-from_recursion (IsSaid version) s.list s.said },
+        record { fits = h.fits; some = omega (arith, h.some, s.number); few = omega (arith, h.few, s.number); limits = All-from_recursion IsAskedAction s.list s.limits; askers = All-from_recursion (IsSaid version) s.list s.said },
         subst (λ (k : ℕ). AreFrames version epoch (count + k) f.frames) (sym s.number) f.are_frames,
       );
       borne = both_borne version (asked_actions s.list) (actions_in f.frames) (All-from_recursion (IsBorne version) (asked_actions s.list) s.borne) f.borne;

@@ -1,5 +1,5 @@
 use Rattle.std.proofs.Math.Logic.{∥∥₁_map}
-use Rattle.alm_keeper.specs.Batch.{asked_of}
+use Rattle.alm_keeper.specs.Batch.{accepted_asked}
 use Rattle.alm_keeper.proofs.Starting.{begun_keeps, begun_layout, still_fits}
 use Rattle.alm_keeper.proofs.keeper.Keeper.begin.Goals as goal
 
@@ -7,7 +7,7 @@ pub invariant_of-self : goal.invariant_of-self
 invariant_of-self g c =
     let old = c.self.inside.book in
     let new = c.begin.new.self in
-    let asked = asked_of old.version c.args.batch.now.entries in
+    let asked = accepted_asked old.version c.args.batch.now.entries in
     let result = c.begin.result in (
       c.begin.ensures.in_order,
       still_fits old new (g.D.Disk.size c.self.inside.disk) (begun_layout result asked old new c.begin.ensures.begins) c.self.invariant.1,
