@@ -75,7 +75,7 @@ pub fn whole_life<D: Crashable + Drop>(
     // The run begins at what `format` makes of the device.
     ensures run { IfOk result
         (λ lived. D.honest lived.1 → (formatted : D) ×
-        IsFormatted D.serves D.state D.honest D.size V02 table.now disk formatted ×
+        IsFormatted D.serves D.state D.honest D.size V02 (new_plant table.now) disk formatted ×
         StandOnly (D.state formatted) (new_plant table.now) × (at : Phase) × (n : ℕ) ×
         IsRun StandsFor IsLastEpoch (closed_world (first (new_plant table.now)))
         (device_alone (D.state formatted) (D.failures formatted) 0) steps.now lived.0.items
@@ -90,9 +90,9 @@ pub fn whole_life<D: Crashable + Drop>(
         last) }
     // The formatting was refused, or memory ran out when the device was formatted.
     ensures refused { IfErr result
-        (λ e. IsLeftBy e.0 D.serves D.state D.honest D.size D.failures table.now disk e.1 ⊎
+        (λ e. IsLeftBy e.0 D.serves D.state D.honest D.size D.failures (new_plant table.now) disk e.1 ⊎
         ((e.0 ≡ FormatFault.OutOfMemory) × (formatted : D) ×
-        IsFormatted D.serves D.state D.honest D.size V02 table.now disk formatted ×
+        IsFormatted D.serves D.state D.honest D.size V02 (new_plant table.now) disk formatted ×
         (D.honest formatted ↔ D.honest e.1) × (D.state e.1 ≡ D.state formatted) ×
         (D.failures e.1 ≡ D.failures formatted))) }
 {

@@ -1,14 +1,16 @@
 -- Which device call is made, by what callers see of a keeper.
-use Rattle.std.proofs.Common.{◌≡◌, ◌≢◌, ℕ, ◌+◌, ◌-◌, ◌≤◌, length, Result, refl, sym, ◌∙◌, ap, subst, arith}
+use Rattle.std.proofs.Common.{◌≡◌, ◌≢◌, ℕ, ◌+◌, ◌-◌, ◌≤◌, Bool, true, List, [], ◌∷◌, length, take, drop, Result, refl, sym, ◌∙◌, ap, subst, arith}
 use Rattle.alm_segment.specs.Course.{frame_len}
 use Rattle.alm_checkpoint.specs.declared.layout.Layout.{Layout}
 use Rattle.alm_checkpoint.specs.declared.half.Half.{Half}
 use Rattle.alm_checkpoint.specs.declared.half.Half.TheVariants.{First, Second}
 use Rattle.alm_checkpoint.specs.Layouts.{half_at, half_len, other}
-use Rattle.alm_disk.specs.declared.call.Call.{Call}
 use Rattle.alm_disk.specs.declared.call.Call.TheVariants.{Write}
 use Rattle.alm_disk.specs.declared.disk_fault.DiskFault.{DiskFault}
-use Rattle.alm_segment.proofs.Pushed.{asked_length}
+use Rattle.alm_disk.specs.declared.disk.Disk
+use Rattle.alm_disk.specs.Device.{DeviceState, Writes}
+use Rattle.alm_codec.specs.Frames.{frame_body}
+use Rattle.alm_codec.specs.Versions.{closed_gate}
 use Rattle.alm_keeper.specs.declared.book.Book.{Book}
 use Rattle.alm_store.specs.declared.progress.Progress.{Progress}
 use Rattle.alm_store.specs.declared.progress.Progress.TheVariants.{More, Done, Failed}
@@ -17,9 +19,11 @@ use Rattle.alm_keeper.specs.declared.stage.Stage.TheVariants.{Idle, Close, Close
 use Rattle.alm_keeper.specs.declared.stage.Work.{Work}
 use Rattle.alm_keeper.specs.declared.stage.Work.TheVariants.{Commit, Checkpoint}
 use Rattle.alm_keeper.specs.Calls.{stage_call}
+use Rattle.alm_keeper.specs.Phases.{StageCall}
+use Rattle.alm_keeper.proofs.Commit.{body_long}
 use Rattle.alm_keeper.specs.Stand.{other_at}
-use Rattle.alm_keeper.specs.Keeper.{KeeperView, half_from, gate_by, piece, written_after, sends, after_call, after_by, call_by, call_of, bytes_of, SendsPiece, CallsOnce, Progresses}
-use Rattle.alm_keeper.specs.Keeping.{account, piece_of, keeper_of, InOrder}
+use Rattle.alm_keeper.specs.Keeper.{KeeperView, half_from, gate_by, piece, written_after, sends, after_call, after_by, call_by, call_of, payload_by, payload_of, bytes_of, Makes, SendsPiece, CallsOnce, Progresses}
+use Rattle.alm_keeper.specs.Keeping.{account, copied_in, piece_of, run_in, keeper_of, InOrder}
 
 -- the gates
 half_is : (l : Layout) (h : Half) → half_at l h ≡ half_from (half_len l) h
@@ -42,7 +46,7 @@ module _ {D : Type 0} (disk : D) (b : Book) where
       by_stage Idle = refl
       by_stage Close = ap (λ (p : ℕ). Write p 1) at
       by_stage CloseSync = refl
-      by_stage Body = λ j. Write (at j + 1) ((long ∙ ap frame_len (sym (asked_length b.actions.items))) j)
+      by_stage Body = λ j. Write (at j + 1) (long j)
       by_stage BodySync = refl
       by_stage Gate = ap (λ (p : ℕ). Write p 1) at
       by_stage GateSync = refl
@@ -77,9 +81,66 @@ module _ {D : Type 0} (disk : D) (b : Book) where
       by_stage GateSync not = refl
       by_stage Stopped not = refl
 
+-- what it makes of a device
+module _ {D : Type 0} (disk : D) (b : Book) (result : Result Unit DiskFault) (old new : DeviceState) where
+  abbrev seen : KeeperView D
+  seen = keeper_of disk b
+
+  -- .. by the next call of a work
+  abbrev Next : Stage → Work → Type 0
+  Next stage work = Makes (call_by stage work seen) (payload_by stage work seen) result old new
+
+  -- of a commit
+  pub commit_makes : InOrder b → (stage : Stage) (text : List ℕ) → b.work ≡ Commit → text ≡ frame_body b.version b.epoch (b.stored.panel.count + 1) b.actions.items → StageCall b.layout.version stage b.gate text result old new → Next stage b.work
+  commit_makes i stage text is body call = subst (Next stage) (sym is) (by_stage stage call)
+    where
+      at : b.gate ≡ gate_by Commit seen
+      at = gate_is b.layout b.half b.gate i.gate
+
+      by_stage : (s : Stage) → StageCall b.layout.version s b.gate text result old new → Next s Commit
+      by_stage Idle call = absurd call
+      by_stage Close call = (refl, subst (λ (p : ℕ). Writes p (closed_gate b.layout.version ∷ []) result old new) at call)
+      by_stage CloseSync call = call
+      by_stage Body call = (body_long b.version b.epoch (b.stored.panel.count + 1) b.actions.items, subst (λ (t : List ℕ). Writes (gate_by Commit seen + 1) t result old new) body (subst (λ (p : ℕ). Writes (p + 1) text result old new) at call))
+      by_stage BodySync call = call
+      by_stage Gate call = (refl, subst (λ (p : ℕ). Writes p (165 ∷ []) result old new) at call)
+      by_stage GateSync call = call
+      by_stage Stopped call = absurd call
+
+  -- of a checkpoint: a piece, any other
+  pub piece_makes : (at : ℕ) (text : List ℕ) → b.stage ≡ Body → b.work ≡ Checkpoint → b.copying ≡ true → at ≡ other_at (account b) + b.out → text ≡ take (piece_of b) (drop b.out (run_in b)) → length text ≡ piece_of b
+      → StageCall b.layout.version Body at text result old new → Next b.stage b.work
+  piece_makes at text body is on place piece long call = subst (λ (s : Stage). Next s b.work) (sym body) (subst (Next Body) (sym is) here)
+    where
+      from : at ≡ gate_by Checkpoint seen + b.out
+      from = place ∙ ap (λ (p : ℕ). p + b.out) (other_is disk b)
+
+      bytes : text ≡ payload_by Body Checkpoint seen
+      bytes = piece ∙ ap (λ (on : Bool). take (piece_of b) (drop b.out (copied_in on (run_in b)))) (sym on)
+
+      here : Next Body Checkpoint
+      here = (ap length (sym bytes) ∙ long, subst (λ (t : List ℕ). Writes (gate_by Checkpoint seen + b.out + 1) t result old new) bytes (subst (λ (p : ℕ). Writes (p + 1) text result old new) from call))
+
+  pub checkpoint_makes : (stage : Stage) (at : ℕ) (text : List ℕ) → (stage ≡ Body → ⊥) → at ≡ other_at (account b) → b.work ≡ Checkpoint → StageCall b.layout.version stage at text result old new → Next stage b.work
+  checkpoint_makes stage at text pieces place is call = subst (Next stage) (sym is) (by_stage stage pieces call)
+    where
+      from : at ≡ gate_by Checkpoint seen
+      from = place ∙ other_is disk b
+
+      by_stage : (s : Stage) → (s ≡ Body → ⊥) → StageCall b.layout.version s at text result old new → Next s Checkpoint
+      by_stage Idle not call = absurd call
+      by_stage Close not call = (refl, subst (λ (p : ℕ). Writes p (closed_gate b.layout.version ∷ []) result old new) from call)
+      by_stage CloseSync not call = call
+      by_stage Body not call = absurd (not refl)
+      by_stage BodySync not call = call
+      by_stage Gate not call = (refl, subst (λ (p : ℕ). Writes p (165 ∷ []) result old new) from call)
+      by_stage GateSync not call = call
+      by_stage Stopped not call = absurd call
+
 -- as callers see it
-pub calls_of : {D : Type 0} (serves : D → Call → Result Unit DiskFault → D → Type 0) (disk to : D) (b : Book) (k : KeeperView D) (result : Progress) → keeper_of disk b ≡ k → CallsOnce serves (call_of (keeper_of disk b)) result disk to → CallsOnce serves (call_of k) result k.disk to
-calls_of {D = D} serves disk to b k result same c = subst (λ (h : KeeperView D). CallsOnce serves (call_of h) result h.disk to) same c
+pub calls_of : {D : Type 0} (d : Disk.Ghosts D) (disk to : D) (b : Book) (k : KeeperView D) (result : Progress) → keeper_of disk b ≡ k → CallsOnce d (call_of (keeper_of disk b)) (payload_of (keeper_of disk b)) result disk to
+    → CallsOnce d (call_of k) (payload_of k) result k.disk to
+calls_of {D = D} d disk to b k result same c = subst (λ (h : KeeperView D). CallsOnce d (call_of h) (payload_of h) result h.disk to) same c
 
 module _ {D : Type 0} (result : Progress) (old new : KeeperView D) (body : old.stage ≡ Body) (is : old.work ≡ Checkpoint) where
   sent_piece : new ≡ record (after_call old) { disk = new.disk } → SendsPiece old new

@@ -2,6 +2,7 @@
 use Rattle.std.proofs.Common.{◌≡◌, ◌≢◌, ◌<◌, ◌≤◌, ◌+◌, ◌-◌, ◌==◌, ◌⊎◌, inl, inr, ℕ, Bool, true, false, List, length, Result, Ok, Err, OnOk, if◌then◌else◌, refl, sym, ◌∙◌, ap, subst, arith}
 use Rattle.std.proofs.lemmas.Bool.{eqb-false}
 use Rattle.alm_types.specs.declared.action.Action.{Action}
+use Rattle.alm_codec.specs.declared.asked.Asked.{Asked}
 use Rattle.alm_store.specs.declared.phase.Phase.TheVariants as at
 use Rattle.alm_store.specs.declared.progress.Progress.{Progress}
 use Rattle.alm_store.specs.declared.progress.Progress.TheVariants.{More, Done, Failed}
@@ -14,6 +15,7 @@ use Rattle.alm_keeper.specs.Stages.{IsWorking, first_stage, sent_stage, phase_of
 use Rattle.alm_codec.specs.declared.version.Version.{Version}
 use Rattle.alm_codec.specs.Versions.{AreBorne, newer}
 use Rattle.alm_codec.proofs.Full.{newer_bears}
+use Rattle.alm_checkpoint.specs.Layouts.{half_len, image_size}
 use Rattle.alm_keeper.specs.Keeper.{KeeperView, Standing, HasRoomFor, next, next_by, begun_by, first_run, piece, sends, after_call, after_by, BeginsCommit, BeginsCheckpoint, Progresses}
 use Rattle.alm_store.specs.Advancing.{IsCheckpointing, TakesOn}
 use Rattle.alm_keeper.specs.AsStore.{pieces, body_calls, calls_left}
@@ -183,11 +185,11 @@ open_work Gate Commit e = absurd e
 open_work GateSync Commit e = absurd e
 
 module _ {D : Type 0} where
-  pub commit_calls : (result : Result Unit Refused) (actions : List Action) (old new : KeeperView D) → BeginsCommit result actions old new → OnOk result (Left new ≤ 4)
-  commit_calls (Ok u) actions old new begins = let is = ap Left begins in omega (arith, is)
-  commit_calls (Err why) actions old new begins = tt
+  pub commit_calls : (result : Result Unit Refused) (asked : List Asked) (old new : KeeperView D) → BeginsCommit result asked old new → OnOk result (Left new ≤ 4)
+  commit_calls (Ok u) asked old new begins = let is = ap Left begins in omega (arith, is)
+  commit_calls (Err why) asked old new begins = tt
 
-  pub checkpoint_calls : (result : Result Unit Refused) (old new : KeeperView D) → old.image ≤ 3289168 → BeginsCheckpoint result old new → OnOk result (Left new ≤ 320)
+  pub checkpoint_calls : (result : Result Unit Refused) (old new : KeeperView D) → image_size old.layout ≤ 3289168 → BeginsCheckpoint result old new → OnOk result (Left new ≤ 320)
   checkpoint_calls (Ok u) old new small begins =
       let is = ap Left begins in
       let few = first_calls old.other_open (first_run old - 0) (omega (arith, small)) in
@@ -195,11 +197,11 @@ module _ {D : Type 0} where
   checkpoint_calls (Err why) old new small begins = tt
 
   -- a checkpoint makes room for a whole batch
-  pub checkpoint_room : (result : Result Unit Refused) (old new : KeeperView D) → 4116 ≤ old.segment → BeginsCheckpoint result old new
+  pub checkpoint_room : (result : Result Unit Refused) (old new : KeeperView D) → 4116 ≤ old.layout.segment → BeginsCheckpoint result old new
       → OnOk result ((actions : List Action) → length actions ≤ 256 → HasRoomFor (next new) actions)
   checkpoint_room (Ok u) old new least begins = λ actions few.
       let is = ap next begins ∙ first_next old.other_open old.stored _ in
-      let room : (next new).room ≡ old.segment = ap (λ (s : Standing). s.room) is ∙ omega arith in
+      let room : (next new).room ≡ old.layout.segment = ap (λ (s : Standing). s.room) is ∙ omega arith in
       let version : newer old.stored.version ≡ (next new).version = ap (λ (s : Standing). s.version) (sym is) in
       (omega (arith, room, least, few), subst (λ (v : Version). AreBorne v actions) version (newer_bears old.stored.version actions))
   checkpoint_room (Err why) old new least begins = tt
@@ -233,13 +235,13 @@ module _ {D : Type 0} where
   will_take_on Failed old new works goes actions room = tt
 
   -- what was taken is taken after a checkpoint's call
-  pub takes_kept : (result : Progress) (old new : KeeperView D) → IsCheckpointing (phase_of old.stage old.work) → old.run + old.stored.room ≤ 25 + old.image + old.segment → Progresses result old new → result ≢ Failed
+  pub takes_kept : (result : Progress) (old new : KeeperView D) → IsCheckpointing (phase_of old.stage old.work) → old.run + old.stored.room ≤ half_len old.layout → Progresses result old new → result ≢ Failed
       → (actions : List Action) → HasRoomFor old.stored actions → HasRoomFor new.stored actions
   takes_kept More old new goes_on runs goes not actions room =
       subst (λ (s : Standing). HasRoomFor s actions) (sym (ap (λ (k : KeeperView D). k.stored) goes.1 ∙ stored_kept old old.stage old.work goes.0)) room
   takes_kept Done old new goes_on runs goes not actions room =
       let turns = (turned old new goes_on goes).1 in
-      let left : new.stored.room ≡ 25 + old.image + old.segment - old.run = ap (λ (s : Standing). s.room) turns in
+      let left : new.stored.room ≡ half_len old.layout - old.run = ap (λ (s : Standing). s.room) turns in
       let version : newer old.stored.version ≡ new.stored.version = ap (λ (s : Standing). s.version) (sym turns) in
       (omega (arith, left, runs, room.0), subst (λ (v : Version). AreBorne v actions) version (newer_bears old.stored.version actions))
   takes_kept Failed old new goes_on runs goes not actions room = absurd (not refl)

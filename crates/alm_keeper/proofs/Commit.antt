@@ -8,7 +8,7 @@ use Rattle.alm_model.specs.Rules.{AreAdmitted}
 use Rattle.alm_codec.specs.declared.version.Version.{Version}
 use Rattle.alm_codec.specs.Frames.{IsFrame, asked_actions, frame_body, frame_text}
 use Rattle.alm_codec.specs.Versions.{is_open, closed_gate}
-use Rattle.alm_checkpoint.specs.Cut.{Cut, Stores, Reaches, front, back, with_frame}
+use Rattle.alm_checkpoint.specs.Cut.{Cut, Stores, Reaches, front, back, device_of, with_frame}
 use Rattle.alm_checkpoint.proofs.Grown.{pushes, reaches_pushed, stores_pushed, gate_at}
 use Rattle.alm_keeper.specs.Stand.{HoldsPlant, Account, account_of, Ready, TakesAsked, with_commit}
 use Rattle.alm_keeper.proofs.Devices.{frame_long}
@@ -52,17 +52,20 @@ module _ (c : Cut) (plant : Condensed) (actions : List Asked) (gate : ℕ) (tail
 
   -- with any open gate
   module _ (own : ℕ) (opened : is_open c.version own ≡ true) where
-    abbrev grown_cut : Cut
+    abbrev pub grown_cut : Cut
     grown_cut = with_frame c (record { gate = own; asked = actions })
 
-    abbrev next : ℕ
+    abbrev pub next : ℕ
     next = closed_gate c.version
 
-    grown : Stores grown_cut (run plant (asked_actions actions))
+    pub grown : Stores grown_cut (run plant (asked_actions actions))
     grown = stores_pushed c plant (record { gate = own; asked = actions }) stores opened frame takes.1 admitted
 
-    grown_reaches : Reaches grown_cut (next ∷ drop n tail)
+    pub grown_reaches : Reaches grown_cut (next ∷ drop n tail)
     grown_reaches = reaches_pushed c plant (record { gate = own; asked = actions }) (next ∷ drop n tail) stores (omega (arith, reaches, left_long, length-append (own ∷ t) (next ∷ drop n tail), frame_long c.version c.epoch (plant.panel.count + 1) actions))
+
+    pub grown_text : front c ++ (own ∷ text) ++ (drop n tail ++ back c) ≡ device_of grown_cut (next ∷ drop n tail)
+    grown_text = regroup_body own next (front c) t (drop n tail) (back c) ∙ pushes c plant (record { gate = own; asked = actions }) (next ∷ drop n tail) stores
 
     pub ready : Ready (with_commit (account_of c plant) actions) (front c ++ (own ∷ text) ++ (drop n tail ++ back c))
     ready =
@@ -76,5 +79,5 @@ module _ (c : Cut) (plant : Condensed) (actions : List Asked) (gate : ℕ) (tail
           closed = closed_shut c.version;
           tail = drop n tail;
           reaches = grown_reaches;
-          text = regroup_body own next (front c) t (drop n tail) (back c) ∙ pushes c plant (record { gate = own; asked = actions }) (next ∷ drop n tail) stores;
+          text = grown_text;
         }

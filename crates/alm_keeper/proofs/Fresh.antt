@@ -1,15 +1,15 @@
 -- A device on which all is written encodes the new plant.
-use Rattle.std.proofs.Common.{◌≡◌, inl, inr, ⊎_elim, ℕ, suc, ◌+◌, ◌-◌, ◌≤◌, true, false, leb, List, [], ◌∷◌, ◌++◌, length, take, drop, refl, sym, ◌∙◌, ap, subst, arith, append_assoc, length-append, length-drop, take-append-drop}
+use Rattle.std.proofs.Common.{◌≡◌, inl, inr, ⊎_elim, ℕ, suc, ◌+◌, ◌-◌, ◌^◌, ◌≤◌, true, false, leb, List, [], ◌∷◌, ◌++◌, length, take, drop, refl, sym, ◌∙◌, ap, subst, arith, append_assoc, length-append, length-drop, take-append-drop}
 use Rattle.std.proofs.lemmas.Bool.{leb-true, le-leb, and_parts, and_from}
 use Rattle.std.proofs.lemmas.List.{append-nil, length-take-le, take_at, drop_at, length-replicate}
 use Rattle.std.proofs.lemmas.List.Elements.{All-nil}
 use Rattle.alm_codec.specs.Versions.{closed_gate, IsBorne}
 use Rattle.alm_codec.specs.declared.version.Version.{Version}
 use Rattle.alm_codec.specs.declared.version.Version.TheVariants.{V01, V02, V03}
-use Rattle.alm_types.specs.Tables.{Listing, IsTable}
+use Rattle.alm_types.specs.Tables.{Listing}
 use Rattle.alm_model.specs.Plant.{Condensed}
 use Rattle.alm_model.specs.New.{new_plant, at_rest}
-use Rattle.alm_model.proofs.Kept.{new-keeps}
+use Rattle.alm_model.specs.Rules.{KeepsRules}
 use Rattle.alm_codec.specs.Image.{IsOf, image_text, image_len}
 use Rattle.alm_codec.proofs.Spelled.{image_length}
 use Rattle.alm_disk.specs.Device.{DeviceState}
@@ -17,14 +17,14 @@ use Rattle.alm_checkpoint.specs.declared.layout.Layout.{Layout}
 use Rattle.alm_checkpoint.specs.declared.half.Half.TheVariants.{First, Second}
 use Rattle.alm_checkpoint.specs.declared.half_head.HalfHead.{HalfHead}
 use Rattle.alm_checkpoint.specs.Layouts.{half_at, half_len, image_size, device_len, is_rows, is_areas, is_segment}
-use Rattle.alm_checkpoint.specs.Headers.{header_text, half_head_text, of_rows, allows}
+use Rattle.alm_checkpoint.specs.Headers.{header_text, half_head_text, of_rows, allows, segment_fits}
 use Rattle.alm_checkpoint.specs.Cut.{Cut, IsLayout, Stores, head_before, device_of}
 use Rattle.alm_checkpoint.proofs.HeaderLaws.{head_long}
 use Rattle.alm_checkpoint.proofs.Turned.{shut_beside}
 use Rattle.alm_keeper.proofs.Gates.{closed_shut, written_open}
 use Rattle.alm_checkpoint.proofs.Shown.{shown, shown_opens}
 use Rattle.alm_segment.proofs.Segments.{folds}
-use Rattle.alm_keeper.specs.Formatting.{IsLongest, IsNewDevice, IsWritten, Leaves, LeavesOf, overwritten, with_empty_half, with_open_gate, first_half, IsOfVersion}
+use Rattle.alm_keeper.specs.Formatting.{IsLongest, IsLongestFor, IsNewDevice, IsWritten, Leaves, LeavesOf, overwritten, with_empty_half, with_open_gate, first_half, IsOfVersion}
 
 -- ---- the bytes
 
@@ -38,7 +38,7 @@ put_mid at bytes front old back place long = (λ i. take (place i) (front ++ old
     drop_back = drop_at (front ++ old) back (length front + length old) (length-append front old)
 
 -- the same, with the list regrouped before and after
-put_in : (at : ℕ) (bytes front old back all after : List ℕ) → all ≡ front ++ old ++ back → front ++ bytes ++ back ≡ after → at ≡ length front → length bytes ≡ length old → overwritten at bytes all ≡ after
+pub put_in : (at : ℕ) (bytes front old back all after : List ℕ) → all ≡ front ++ old ++ back → front ++ bytes ++ back ≡ after → at ≡ length front → length bytes ≡ length old → overwritten at bytes all ≡ after
 put_in at bytes front old back all after is to place long = ap (overwritten at bytes) is ∙ put_mid at bytes front old back place long ∙ to
 
 record Split (n : ℕ) (x : List ℕ) : Type 0 where
@@ -169,57 +169,76 @@ own_version V03 = refl
 fresh : Layout → Condensed → List ℕ → List ℕ → Cut
 fresh l q other rest = record { layout = l; half = First; version = l.version; half_gate = 165; epoch = 1; base = q; frames = []; other = other; rest = rest }
 
-module _ (size : ℕ) (t : Listing) (l : Layout) (h : IsTable t) (k : IsLongest size t l) where
-  rows_in : is_rows (length t.alarms) ≡ true
-  rows_in = and_from (leb 1 (length t.alarms)) (leb (length t.alarms) 16384) (le-leb 1 (length t.alarms) h.some) (le-leb (length t.alarms) 16384 h.few)
+-- the new plant of a table has its alarms and areas
+new_rows : (t : Listing) → length (new_plant t).panel.rows ≡ length t.alarms
+new_rows t = length-replicate (length t.alarms) at_rest
 
-  areas_in : is_areas t.areas ≡ true
-  areas_in = and_from (leb 1 t.areas) (leb t.areas 64) (le-leb 1 t.areas h.areas.0) (le-leb t.areas 64 h.areas.1)
+new_areas : (t : Listing) → length (new_plant t).floods ≡ t.areas
+new_areas t = length-replicate t.areas false
 
-  by_limits : (is_segment l.segment ≡ true) × (leb (device_len (of_rows (length t.alarms) t.areas l.segment V02)) size ≡ true)
-  by_limits = and_parts (is_segment l.segment) (leb (device_len (of_rows (length t.alarms) t.areas l.segment V02)) size) k.fits
+pub new_longest : (size : ℕ) (t : Listing) (l : Layout) → IsLongest size (length t.alarms) t.areas l → IsLongestFor size (new_plant t) l
+new_longest size t l k = subst (λ (n : ℕ). IsLongest size n (length (new_plant t).floods) l) (sym (new_rows t)) (subst (λ (n : ℕ). IsLongest size (length t.alarms) n l) (sym (new_areas t)) k)
+
+pub new_fits : (size : ℕ) (t : Listing) (n : ℕ) → segment_fits size (length t.alarms) t.areas n ≡ false → segment_fits size (length (new_plant t).panel.rows) (length (new_plant t).floods) n ≡ false
+new_fits size t n none = (λ i. segment_fits size (new_rows t i) (new_areas t i) n) ∙ none
+
+module _ (size : ℕ) (q : Condensed) (l : Layout) (rules : KeepsRules q) (few : q.panel.count ≤ 2 ^ 48) (k : IsLongestFor size q l) where
+  abbrev rows : ℕ
+  rows = length q.panel.rows
+
+  abbrev areas : ℕ
+  areas = length q.floods
+
+  rows_in : is_rows rows ≡ true
+  rows_in = and_from (leb 1 rows) (leb rows 16384) (le-leb 1 rows rules.some) (le-leb rows 16384 rules.few)
+
+  areas_in : is_areas areas ≡ true
+  areas_in = and_from (leb 1 areas) (leb areas 64) (le-leb 1 areas rules.areas.0) (le-leb areas 64 rules.areas.1)
+
+  by_limits : (is_segment l.segment ≡ true) × (leb (device_len (of_rows rows areas l.segment V02)) size ≡ true)
+  by_limits = and_parts (is_segment l.segment) (leb (device_len (of_rows rows areas l.segment V02)) size) k.fits
 
   pub layout_in : IsLayout l
   layout_in = record { rows = subst (λ (n : ℕ). is_rows n ≡ true) (sym k.of_rows) rows_in; areas = subst (λ (n : ℕ). is_areas n ≡ true) (sym k.of_areas) areas_in; segment = by_limits.0 }
 
   pub fits_device : device_len l ≤ size
-  fits_device = omega (arith, k.of_rows, k.of_areas, leb-true (device_len (of_rows (length t.alarms) t.areas l.segment V02)) size by_limits.1)
+  fits_device = omega (arith, k.of_rows, k.of_areas, leb-true (device_len (of_rows rows areas l.segment V02)) size by_limits.1)
 
   pub some_segment : 1 ≤ l.segment
   some_segment = omega (arith, leb-true 4116 l.segment (and_parts (leb 4116 l.segment) (leb l.segment 16777216) by_limits.0).0)
 
-  pub new_sizes : IsOf l.rows l.areas 0 (new_plant t)
-  new_sizes = record { by_rows = length-replicate (length t.alarms) at_rest ∙ sym k.of_rows; by_areas = length-replicate t.areas false ∙ sym k.of_areas; by_count = refl }
+  pub new_sizes : IsOf l.rows l.areas q.panel.count q
+  new_sizes = record { by_rows = sym k.of_rows; by_areas = sym k.of_areas; by_count = refl }
 
-  new_image : length (image_text (new_plant t)) ≡ image_size l
-  new_image = image_length (new_plant t) (new-keeps t h) ∙ (λ i. image_len (new_sizes.by_rows i) (new_sizes.by_areas i))
+  new_image : length (image_text q) ≡ image_size l
+  new_image = image_length q rules ∙ (λ i. image_len (new_sizes.by_rows i) (new_sizes.by_areas i))
 
   abbrev shut : ℕ
   shut = closed_gate l.version
 
   abbrev head : HalfHead
-  head = head_before l.version 1 (new_plant t)
+  head = head_before l.version 1 q
 
   abbrev body : List ℕ
-  body = half_head_text l First head ++ image_text (new_plant t) ++ shut ∷ []
+  body = half_head_text l First head ++ image_text q ++ shut ∷ []
 
   body_long : length body ≡ 25 + image_size l
-  body_long = omega (arith, new_image, head_long l First head, length-append (half_head_text l First head ++ image_text (new_plant t)) (shut ∷ []), length-append (half_head_text l First head) (image_text (new_plant t)))
+  body_long = omega (arith, new_image, head_long l First head, length-append (half_head_text l First head ++ image_text q) (shut ∷ []), length-append (half_head_text l First head) (image_text q))
 
-  pub half_long : length (first_half l (new_plant t)) ≡ 26 + image_size l
+  pub half_long : length (first_half l q) ≡ 26 + image_size l
   half_long = omega (arith, body_long)
 
   -- the device as a cut
-  fresh_stores : (o rest : List ℕ) → length o + 1 ≡ half_len l → Stores (fresh l (new_plant t) (shut ∷ o) rest) (new_plant t)
+  fresh_stores : (o rest : List ℕ) → length o + 1 ≡ half_len l → Stores (fresh l q (shut ∷ o) rest) q
   unfolding fresh
   fresh_stores o rest long = record {
     layout = layout_in;
     version = own_version l.version;
     opened = written_open l.version;
     epoch = omega arith;
-    image = record { rules = new-keeps t h; fits = omega arith; text = refl };
+    image = record { rules = rules; fits = (let s = rules.stamps in omega (arith, s, few)); text = refl };
     sizes = new_sizes;
-    count = omega arith;
+    count = few;
     frames = tt;
     borne = All-nil (IsBorne l.version);
     admitted = tt;
@@ -228,53 +247,53 @@ module _ (size : ℕ) (t : Listing) (l : Layout) (h : IsTable t) (k : IsLongest 
     below = record { older = inl (closed_shut l.version); whole = shut_beside l Second (shut ∷ o) (closed_shut l.version) };
   }
 
-  fresh_stands : (s o rest : List ℕ) → length s + 1 ≡ l.segment → length o + 1 ≡ half_len l → IsNewDevice size t (device_of (fresh l (new_plant t) (shut ∷ o) rest) (shut ∷ s))
+  fresh_stands : (s o rest : List ℕ) → length s + 1 ≡ l.segment → length o + 1 ≡ half_len l → IsNewDevice size q (device_of (fresh l q (shut ∷ o) rest) (shut ∷ s))
   unfolding fresh
   fresh_stands s o rest by_s by_o =
-      let c = fresh l (new_plant t) (shut ∷ o) rest in
+      let c = fresh l q (shut ∷ o) rest in
       let stores = fresh_stores o rest by_o in
       record {
         stands = record {
           opened = shown c (shut ∷ s);
-          opens = shown_opens c (new_plant t) (shut ∷ s) stores (omega (arith, by_s));
+          opens = shown_opens c q (shut ∷ s) stores (omega (arith, by_s));
           in_epoch = refl;
-          base = new_plant t;
+          base = q;
           spells = record { sum = refl; sizes = stores.sizes; image = stores.image };
           left = suc (length s);
-          folds = folds l.version (new_plant t) 1 0 [] shut s tt (All-nil (IsBorne l.version)) tt (closed_shut l.version);
+          folds = folds l.version q 1 q.panel.count [] shut s tt (All-nil (IsBorne l.version)) tt (closed_shut l.version);
         };
         longest = k;
       }
 
-  fresh_is : (s o rest : List ℕ) → (165 ∷ []) ++ (header_text l ++ (165 ∷ []) ++ (body ++ (s ++ ((shut ∷ []) ++ (o ++ rest))))) ≡ device_of (fresh l (new_plant t) (shut ∷ o) rest) (shut ∷ s)
+  fresh_is : (s o rest : List ℕ) → (165 ∷ []) ++ (header_text l ++ (165 ∷ []) ++ (body ++ (s ++ ((shut ∷ []) ++ (o ++ rest))))) ≡ device_of (fresh l q (shut ∷ o) rest) (shut ∷ s)
   unfolding fresh
   fresh_is s o rest =
-      regroup shut (header_text l) (half_head_text l First head) (image_text (new_plant t)) s (shut ∷ o) rest
-      ∙ nils (165 ∷ header_text l) (165 ∷ half_head_text l First head ++ image_text (new_plant t)) (shut ∷ s) ((shut ∷ o) ++ rest)
+      regroup shut (header_text l) (half_head_text l First head) (image_text q) s (shut ∷ o) rest
+      ∙ nils (165 ∷ header_text l) (165 ∷ half_head_text l First head ++ image_text q) (shut ∷ s) ((shut ∷ o) ++ rest)
 
-  fresh_version : (s o rest : List ℕ) → length s + 1 ≡ l.segment → length o + 1 ≡ half_len l → IsOfVersion l.version (device_of (fresh l (new_plant t) (shut ∷ o) rest) (shut ∷ s))
+  fresh_version : (s o rest : List ℕ) → length s + 1 ≡ l.segment → length o + 1 ≡ half_len l → IsOfVersion l.version (device_of (fresh l q (shut ∷ o) rest) (shut ∷ s))
   unfolding fresh
   fresh_version s o rest by_s by_o =
-      let c = fresh l (new_plant t) (shut ∷ o) rest in
-      record { opened = shown c (shut ∷ s); opens = shown_opens c (new_plant t) (shut ∷ s) (fresh_stores o rest by_o) (omega (arith, by_s)); of_header = refl; of_half = refl }
+      let c = fresh l q (shut ∷ o) rest in
+      record { opened = shown c (shut ∷ s); opens = shown_opens c q (shut ∷ s) (fresh_stores o rest by_o) (omega (arith, by_s)); of_header = refl; of_half = refl }
 
   new_cut : (x : List ℕ) (p : Pieces l x) → with_open_gate (with_empty_half l (header_text l) (shut ∷ body) x) ≡ (165 ∷ []) ++ (header_text l ++ (165 ∷ []) ++ (body ++ (p.s ++ ((shut ∷ []) ++ (p.o ++ p.r)))))
   new_cut x p =
       ap (λ (z : List ℕ). with_open_gate (with_empty_half l (header_text l) (shut ∷ body) z)) p.is
       ∙ all_put l (header_text l) body p.a p.h p.m p.s p.g (p.o ++ p.r) p.by_a p.by_h refl (omega (arith, p.by_m, body_long)) body_long p.by_s p.by_g
 
-  new_is : (x b : List ℕ) → b ≡ with_open_gate (with_empty_half l (header_text l) (shut ∷ body) x) → Pieces l x → IsNewDevice size t b
-  new_is x b is p = subst (IsNewDevice size t) (sym (is ∙ new_cut x p ∙ fresh_is p.s p.o p.r)) (fresh_stands p.s p.o p.r p.by_s p.by_o)
+  new_is : (x b : List ℕ) → b ≡ with_open_gate (with_empty_half l (header_text l) (shut ∷ body) x) → Pieces l x → IsNewDevice size q b
+  new_is x b is p = subst (IsNewDevice size q) (sym (is ∙ new_cut x p ∙ fresh_is p.s p.o p.r)) (fresh_stands p.s p.o p.r p.by_s p.by_o)
 
   version_is : (x b : List ℕ) → b ≡ with_open_gate (with_empty_half l (header_text l) (shut ∷ body) x) → Pieces l x → IsOfVersion l.version b
   version_is x b is p = subst (IsOfVersion l.version) (sym (is ∙ new_cut x p ∙ fresh_is p.s p.o p.r)) (fresh_version p.s p.o p.r p.by_s p.by_o)
 
-  pub version_here : (b : List ℕ) → IsWritten size l (header_text l) (first_half l (new_plant t)) b → IsOfVersion l.version b
+  pub version_here : (b : List ℕ) → IsWritten size l (header_text l) (first_half l q) b → IsOfVersion l.version b
   version_here b w = version_is w.before b w.is (pieces l w.before some_segment (omega (arith, fits_device, w.long)))
 
-  pub new_here : (b : List ℕ) → IsWritten size l (header_text l) (first_half l (new_plant t)) b → IsNewDevice size t b
+  pub new_here : (b : List ℕ) → IsWritten size l (header_text l) (first_half l q) b → IsNewDevice size q b
   new_here b w = new_is w.before b w.is (pieces l w.before some_segment (omega (arith, fits_device, w.long)))
 
   -- what a crash leaves of a device whose formatting failed
-  pub new_leaves : (old new : DeviceState) → Leaves size l (header_text l) (first_half l (new_plant t)) old new → LeavesOf size t old new
+  pub new_leaves : (old new : DeviceState) → Leaves size l (header_text l) (first_half l q) old new → LeavesOf size q old new
   new_leaves old new leaves = ⊎_elim (λ b. inl b) (λ all. inr (λ b image. ⊎_elim (λ u. inl u) (λ w. inr (new_here b w)) (all b image))) leaves

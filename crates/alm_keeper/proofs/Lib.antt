@@ -27,6 +27,7 @@ pub mod Called
 pub mod Formed
 pub mod Gates
 pub mod Fresh
+pub mod Trail
 pub mod Moments
 pub mod Pace
 pub mod StoreBegun

@@ -2,17 +2,11 @@
 use Rattle.std.proofs.Common.{◌≡◌, ℕ, ◌+◌, ◌-◌, Bool, true, false, List, length, Result, Ok, Err, refl, sym, ◌∙◌, ap, subst, arith}
 use Rattle.alm_codec.specs.Versions.{newer}
 use Rattle.alm_types.specs.declared.action.Action.{Action}
-use Rattle.alm_types.specs.declared.entry.Entry.{Entry}
 use Rattle.alm_codec.specs.declared.asked.Asked.{Asked}
-use Rattle.alm_codec.specs.declared.version.Version.{Version}
 use Rattle.alm_codec.specs.Frames.{asked_actions}
-use Rattle.alm_model.specs.Judging.{accepted_of}
-use Rattle.alm_segment.proofs.Pushed.{asked_length}
-use Rattle.alm_keeper.specs.Batch.{accepted_asked}
-use Rattle.alm_keeper.proofs.Tried.{asked_accepted}
 use Rattle.alm_model.specs.Step.{run}
 use Rattle.alm_segment.specs.Course.{frame_len}
-use Rattle.alm_checkpoint.specs.Layouts.{head_len, image_size}
+use Rattle.alm_checkpoint.specs.Layouts.{half_len}
 use Rattle.alm_keeper.specs.declared.book.Book.{Book}
 use Rattle.alm_store.specs.declared.refused.Refused.{Refused}
 use Rattle.alm_store.specs.declared.refused.Refused.TheVariants as no
@@ -23,58 +17,58 @@ use Rattle.alm_keeper.specs.declared.stage.Stage.TheVariants.{Idle, Close, Close
 use Rattle.alm_keeper.specs.declared.stage.Work.{Work}
 use Rattle.alm_keeper.specs.declared.stage.Work.TheVariants.{Commit, Checkpoint}
 use Rattle.alm_keeper.specs.Stand.{Account, FitsFrame, TakesFrame, with_commit, turned_half, end_of_half}
-use Rattle.alm_keeper.specs.Keeper.{HasRoom, HasRoomFor as StandingTakes, with_actions, with_checkpoint, begun_standing, begun_by, next_by, after_frame, after_call, after_by, BeginsCommit, BeginsCheckpoint, Progresses}
-use Rattle.alm_keeper.specs.Keeping.{account, done_by, account_next_at, standing_by, keeper_of, Begins, Copies, ClosesBook, TurnsBook, GrowsWhere, IsBookAfter, EndsStep}
+use Rattle.alm_keeper.specs.Keeper.{HasRoom, HasRoomFor as StandingTakes, with_actions, with_checkpoint, begun_standing, begun_by, next_by, after_frame, copied_after, after_call, after_by, BeginsCommit, BeginsCheckpoint, Progresses}
+use Rattle.alm_keeper.specs.Keeping.{account, copied_in, run_in, done_by, account_next_at, standing_by, keeper_of, Begins, Copies, ClosesBook, TurnsBook, GrowsWhere, IsBookAfter, EndsStep}
 
 -- a commit, a checkpoint
-pub after_commit : (a : Account) (asked : List Asked) → standing_by (with_commit a asked) ≡ with_actions (standing_by a) (asked_actions asked)
+pub after_commit : (a : Account) (asked : List Asked) → standing_by (with_commit a asked) ≡ with_actions (standing_by a) asked
 after_commit a asked = λ i. record { version = a.version; epoch = a.epoch; plant = run a.plant (asked_actions asked); room = left i }
   where
-    left : end_of_half a - (a.gate + frame_len (length asked)) ≡ end_of_half a - a.gate - frame_len (length (asked_actions asked))
-    left = omega (arith, asked_length asked)
+    left : end_of_half a - (a.gate + frame_len (length asked)) ≡ end_of_half a - a.gate - frame_len (length asked)
+    left = omega arith
 
-pub after_checkpoint : (a : Account) (n : ℕ) → standing_by (turned_half a n) ≡ with_checkpoint (head_len + image_size a.layout + a.layout.segment) n (standing_by a)
+pub after_checkpoint : (a : Account) (n : ℕ) → standing_by (turned_half a n) ≡ with_checkpoint (half_len a.layout) n (standing_by a)
 after_checkpoint a n = λ i. record { version = newer a.version; epoch = a.epoch + 1; plant = a.plant; room = left i }
   where
-    left : end_of_half (turned_half a n) - (turned_half a n).gate ≡ head_len + image_size a.layout + a.layout.segment - n
+    left : end_of_half (turned_half a n) - (turned_half a n).gate ≡ half_len a.layout - n
     left = omega arith
 
 module _ {D : Type 0} (disk : D) where
-  pub begins_seen : (result : Result Unit Refused) (version : Version) (entries : List Entry) (old new : Book) → Begins result (accepted_asked version entries) old new → BeginsCommit result (accepted_of entries) (keeper_of disk old) (keeper_of disk new)
-  begins_seen (Ok _) version entries old new b = λ i. record {
+  pub begins_seen : (result : Result Unit Refused) (asked : List Asked) (old new : Book) → Begins result asked old new → BeginsCommit result asked (keeper_of disk old) (keeper_of disk new)
+  begins_seen (Ok _) asked old new b = λ i. record {
     disk = disk;
     stage = b.1 i;
     work = b.2 i;
     half = (b.4.account i).half;
     other_open = (b.4.account i).other_open;
-    image = image_size (b.4.account i).layout;
-    segment = (b.4.account i).layout.segment;
+    layout = (b.4.account i).layout;
     stored = standing_by (b.4.account i);
-    actions = (ap asked_actions b.3 ∙ asked_accepted version entries) i;
+    asked = b.3 i;
     copying = b.4.copying i;
     run = b.4.run i;
+    copied = copied_in (b.4.copying i) (b.4.text i);
     out = b.4.out i;
     written = b.4.written i;
   }
-  begins_seen (Err (no.NotAccepted place)) version entries old new b = λ i. record {
+  begins_seen (Err (no.NotAccepted place)) asked old new b = λ i. record {
     disk = disk;
     stage = b.1 i;
     work = b.2 i;
     half = (b.4.account i).half;
     other_open = (b.4.account i).other_open;
-    image = image_size (b.4.account i).layout;
-    segment = (b.4.account i).layout.segment;
+    layout = (b.4.account i).layout;
     stored = standing_by (b.4.account i);
-    actions = asked_actions (b.3 i);
+    asked = b.3 i;
     copying = b.4.copying i;
     run = b.4.run i;
+    copied = copied_in (b.4.copying i) (b.4.text i);
     out = b.4.out i;
     written = b.4.written i;
   }
-  begins_seen (Err no.Stopped) version entries old new b = ap (keeper_of disk) b
-  begins_seen (Err no.Working) version entries old new b = ap (keeper_of disk) b
-  begins_seen (Err no.Gap) version entries old new b = ap (keeper_of disk) b
-  begins_seen (Err no.Exhausted) version entries old new b = ap (keeper_of disk) b
+  begins_seen (Err no.Stopped) asked old new b = ap (keeper_of disk) b
+  begins_seen (Err no.Working) asked old new b = ap (keeper_of disk) b
+  begins_seen (Err no.Gap) asked old new b = ap (keeper_of disk) b
+  begins_seen (Err no.Exhausted) asked old new b = ap (keeper_of disk) b
 
   pub copies_seen : (result : Result Unit Refused) (old new : Book) → Copies result old new → BeginsCheckpoint result (keeper_of disk old) (keeper_of disk new)
   copies_seen (Ok _) old new b = λ i. record {
@@ -83,12 +77,12 @@ module _ {D : Type 0} (disk : D) where
     work = b.work i;
     half = (b.account i).half;
     other_open = (b.account i).other_open;
-    image = image_size (b.account i).layout;
-    segment = (b.account i).layout.segment;
+    layout = (b.account i).layout;
     stored = standing_by (b.account i);
-    actions = asked_actions (b.actions i);
+    asked = b.actions i;
     copying = b.copying i;
     run = b.run i;
+    copied = copied_in (b.copying i) (b.text i);
     out = b.out i;
     written = b.written i;
   }
@@ -103,19 +97,23 @@ module _ {D : Type 0} (disk to : D) (old new : Book) where
     work = c.work i;
     half = (c.account i).half;
     other_open = (c.account i).other_open;
-    image = image_size (c.account i).layout;
-    segment = (c.account i).layout.segment;
+    layout = (c.account i).layout;
     stored = (ap standing_by c.account ∙ after_commit (account old) old.actions.items) i;
-    actions = asked_actions (c.actions i);
+    asked = c.actions i;
     copying = c.copying i;
     run = by_copying old.copying c.grows i;
+    copied = (ap (λ (on : Bool). copied_in on (run_in new)) c.copying ∙ text_by old.copying c.grows) i;
     out = c.out i;
     written = c.written i;
   }
     where
-      by_copying : (copying : Bool) → GrowsWhere copying old new → new.run ≡ after_frame copying old.run (length (asked_actions old.actions.items))
-      by_copying true g = omega (arith, g.run, asked_length old.actions.items)
+      by_copying : (copying : Bool) → GrowsWhere copying old new → new.run ≡ after_frame copying old.run (length old.actions.items)
+      by_copying true g = g.run
       by_copying false g = g
+
+      text_by : (copying : Bool) → GrowsWhere copying old new → copied_in copying (run_in new) ≡ copied_after copying (standing_by (account old)) old.actions.items old.run (copied_in copying (run_in old))
+      text_by true g = g.text
+      text_by false g = refl
 
   turns_seen : TurnsBook old new → keeper_of to new ≡ record (after_by GateSync Checkpoint (keeper_of disk old)) { disk = to }
   turns_seen t = λ i. record {
@@ -124,12 +122,12 @@ module _ {D : Type 0} (disk to : D) (old new : Book) where
     work = t.work i;
     half = (t.account i).half;
     other_open = (t.account i).other_open;
-    image = image_size (t.account i).layout;
-    segment = (t.account i).layout.segment;
+    layout = (t.account i).layout;
     stored = (ap standing_by t.account ∙ after_checkpoint (account old) old.run) i;
-    actions = asked_actions (t.actions i);
+    asked = t.actions i;
     copying = t.copying i;
     run = t.run i;
+    copied = copied_in (t.copying i) (run_in new);
     out = t.out i;
     written = t.written i;
   }

@@ -7,12 +7,11 @@ use Rattle.alm_disk.specs.Settled.{IsSettled}
 use Rattle.alm_disk.proofs.Images.{settled_image}
 use Rattle.alm_segment.proofs.Segments.{folds}
 use Rattle.alm_checkpoint.specs.Standing.{Stands}
-use Rattle.alm_checkpoint.specs.Layouts.{head_len, image_size}
+use Rattle.alm_checkpoint.specs.Layouts.{half_len, image_size}
 use Rattle.alm_checkpoint.specs.Opening.{opened_in}
 use Rattle.alm_checkpoint.specs.Cut.{device_of}
 use Rattle.alm_checkpoint.proofs.Shown.{shown, shown_opens, stands}
 use Rattle.alm_checkpoint.proofs.Grown.{gate_at}
-use Rattle.alm_segment.proofs.Pushed.{asked_length}
 use Rattle.alm_keeper.specs.declared.book.Book.{Book}
 use Rattle.alm_keeper.specs.declared.stage.Stage.{Stage}
 use Rattle.alm_keeper.specs.declared.stage.Stage.TheVariants.{Idle, Close, CloseSync, Body, BodySync, Gate, GateSync, Stopped}
@@ -66,13 +65,12 @@ ready_room a b r =
     left = omega (arith, gate_at r.cut a.plant (r.gate ∷ r.tail) r.stores r.reaches)
 
 -- .. in its half
-pub ready_lies : (a : Account) (b : List ℕ) → Ready a b → LiesIn a.half (image_size a.layout) a.layout.segment b
+pub ready_lies : (a : Account) (b : List ℕ) → Ready a b → LiesIn a.half a.layout b
 ready_lies a b r = record {
   opened = shown r.cut (r.gate ∷ r.tail);
   opens = ap opened_in r.text ∙ shown_opens r.cut a.plant (r.gate ∷ r.tail) r.stores r.reaches;
   in_half = sym (ap (λ (y : Account). y.half) r.is);
-  image_long = sym (ap (λ (y : Account). image_size y.layout) r.is);
-  segment_long = sym (ap (λ (y : Account). y.layout.segment) r.is);
+  of_layout = sym (ap (λ (y : Account). y.layout) r.is);
 }
 
 during_map : (B A B' A' : List ℕ → Type 0) (stage : Stage) (b : List ℕ) → (B b → B' b) → (A b → A' b) → During B A stage b → During B' A' stage b
@@ -181,12 +179,12 @@ rest_stands book state i rests k = by_rest (at_rest book state i rests k)
     by_rest (Idles off kept) = subst (StandsWithRoom (standing_by (account book))) (sym kept.rests.reads) (ready_room (account book) kept.bytes kept.ready)
     by_rest (Pauses c on run kept) = subst (StandsWithRoom (standing_by (account book))) (sym kept.1.rests.reads) (ready_room (account book) kept.1.bytes kept.1.ready)
 
-rest_lies : (book : Book) (state : DeviceState) → InOrder book → IsResting (phase_of book.stage book.work) → Keeps state book → LiesIn book.half (image_size book.layout) book.layout.segment state.bytes
+rest_lies : (book : Book) (state : DeviceState) → InOrder book → IsResting (phase_of book.stage book.work) → Keeps state book → LiesIn book.half book.layout state.bytes
 rest_lies book state i rests k = by_rest (at_rest book state i rests k)
   where
-    by_rest : AtRest book state → LiesIn book.half (image_size book.layout) book.layout.segment state.bytes
-    by_rest (Idles off kept) = subst (LiesIn book.half (image_size book.layout) book.layout.segment) (sym kept.rests.reads) (ready_lies (account book) kept.bytes kept.ready)
-    by_rest (Pauses c on run kept) = subst (LiesIn book.half (image_size book.layout) book.layout.segment) (sym kept.1.rests.reads) (ready_lies (account book) kept.1.bytes kept.1.ready)
+    by_rest : AtRest book state → LiesIn book.half book.layout state.bytes
+    by_rest (Idles off kept) = subst (LiesIn book.half book.layout) (sym kept.rests.reads) (ready_lies (account book) kept.bytes kept.ready)
+    by_rest (Pauses c on run kept) = subst (LiesIn book.half book.layout) (sym kept.1.rests.reads) (ready_lies (account book) kept.1.bytes kept.1.ready)
 
 -- the same of a keeper as its callers see it
 module _ {D : Type 0} (honest : D → Type 0) (state : D → DeviceState) (disk : D) (book : Book) (k : KeeperView D) (same : keeper_of disk book ≡ k) (order : InOrder book) (kept : honest disk → ∥ Keeps (state disk) book ∥₁) where
@@ -198,18 +196,18 @@ module _ {D : Type 0} (honest : D → Type 0) (state : D → DeviceState) (disk 
   rest_of = subst (λ (h : KeeperView D). honest h.disk → IsResting (phase_of h.stage h.work) → ∥ StandsWithRoom h.stored (state h.disk).bytes ∥₁) same
       (λ is rests. ∥∥₁_map (kept is) (λ x. rest_stands book (state disk) order rests x))
 
-  pub lies_of : honest k.disk → IsResting (phase_of k.stage k.work) → ∥ LiesIn k.half k.image k.segment (state k.disk).bytes ∥₁
-  lies_of = subst (λ (h : KeeperView D). honest h.disk → IsResting (phase_of h.stage h.work) → ∥ LiesIn h.half h.image h.segment (state h.disk).bytes ∥₁) same
+  pub lies_of : honest k.disk → IsResting (phase_of k.stage k.work) → ∥ LiesIn k.half k.layout (state k.disk).bytes ∥₁
+  lies_of = subst (λ (h : KeeperView D). honest h.disk → IsResting (phase_of h.stage h.work) → ∥ LiesIn h.half h.layout (state h.disk).bytes ∥₁) same
       (λ is rests. ∥∥₁_map (kept is) (λ x. rest_lies book (state disk) order rests x))
 
-  pub lengths_of : (k.image ≤ 3289168) × (k.segment ≤ 16777216)
-  lengths_of = subst (λ (h : KeeperView D). (h.image ≤ 3289168) × (h.segment ≤ 16777216)) same (layout_limits book.layout order.layout)
+  pub lengths_of : (image_size k.layout ≤ 3289168) × (k.layout.segment ≤ 16777216)
+  lengths_of = subst (λ (h : KeeperView D). (image_size h.layout ≤ 3289168) × (h.layout.segment ≤ 16777216)) same (layout_limits book.layout order.layout)
 
-  pub runs_of : IsWorking k.stage → k.work ≡ Checkpoint → (k.out ≤ k.run) × (k.run + k.stored.room ≤ head_len + k.image + k.segment)
-  runs_of = subst (λ (h : KeeperView D). IsWorking h.stage → h.work ≡ Checkpoint → (h.out ≤ h.run) × (h.run + h.stored.room ≤ head_len + h.image + h.segment)) same (λ works is. runs_by book order works is)
+  pub runs_of : IsWorking k.stage → k.work ≡ Checkpoint → (k.out ≤ k.run) × (k.run + k.stored.room ≤ half_len k.layout)
+  runs_of = subst (λ (h : KeeperView D). IsWorking h.stage → h.work ≡ Checkpoint → (h.out ≤ h.run) × (h.run + h.stored.room ≤ half_len h.layout)) same (λ works is. runs_by book order works is)
 
-  pub frames_of : IsWorking k.stage → k.work ≡ Commit → (length k.actions ≤ 256) × (k.copying ≡ true → k.out + 1 ≤ k.run)
-  frames_of = subst (λ (h : KeeperView D). IsWorking h.stage → h.work ≡ Commit → (length h.actions ≤ 256) × (h.copying ≡ true → h.out + 1 ≤ h.run)) same (λ works is. let f = frames_by book order works is in (omega (arith, f.0, asked_length book.actions.items), f.1))
+  pub frames_of : IsWorking k.stage → k.work ≡ Commit → (length k.asked ≤ 256) × (k.copying ≡ true → k.out + 1 ≤ k.run)
+  frames_of = subst (λ (h : KeeperView D). IsWorking h.stage → h.work ≡ Commit → (length h.asked ≤ 256) × (h.copying ≡ true → h.out + 1 ≤ h.run)) same (λ works is. frames_by book order works is)
 
   pub pieces_of : k.stage ≡ Body → k.work ≡ Checkpoint → k.out + 1 ≤ k.run
   pieces_of = subst (λ (h : KeeperView D). h.stage ≡ Body → h.work ≡ Checkpoint → h.out + 1 ≤ h.run) same (λ at is. piece_by book order at is)

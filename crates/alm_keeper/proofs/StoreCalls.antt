@@ -7,6 +7,7 @@ use Rattle.alm_disk.specs.Failures.{HasFailed}
 use Rattle.alm_disk.specs.declared.call.Call.{Call}
 use Rattle.alm_disk.specs.declared.call.Call.TheVariants.{Sync}
 use Rattle.alm_disk.specs.declared.disk_fault.DiskFault.{DiskFault}
+use Rattle.alm_disk.specs.declared.disk.Disk
 use Rattle.alm_model.specs.Plant.{Condensed}
 use Rattle.alm_checkpoint.specs.declared.layout.Layout.{Layout}
 use Rattle.alm_checkpoint.specs.declared.half.Half.{Half}
@@ -23,7 +24,7 @@ use Rattle.alm_keeper.specs.declared.stage.Work.{Work}
 use Rattle.alm_keeper.specs.declared.stage.Work.TheVariants.{Commit, Checkpoint}
 use Rattle.alm_keeper.specs.AsStore.{IsLastEpoch}
 use Rattle.alm_keeper.specs.Calls.{reads_of}
-use Rattle.alm_keeper.specs.Keeper.{KeeperView, IsStoredIn, next, next_by, begun_by, after_by, call_by, call_of, CallsOnce, Progresses}
+use Rattle.alm_keeper.specs.Keeper.{KeeperView, IsStoredIn, next, next_by, begun_by, after_by, call_by, call_of, payload_of, CallsOnce, Progresses}
 use Rattle.alm_keeper.specs.Opening.{CountsAs}
 
 -- ---- one call
@@ -39,25 +40,28 @@ change_by k Gate w = tt
 change_by k GateSync w = tt
 change_by k Stopped w = tt
 
-module _ {D : Type 0} (serves : D → Call → Result Unit DiskFault → D → Type 0) (old : KeeperView D) (to : D) where
+module _ {D : Type 0} (d : Disk.Ghosts D) (old : KeeperView D) (to : D) where
+  abbrev serves : D → Call → Result Unit DiskFault → D → Type 0
+  serves = d.serves
+
   one_call : (r : Result Unit DiskFault) → serves old.disk (call_of old) r to → OneCall serves r old.disk to
   one_call r served = record { call = call_of old; is_change = change_by old old.stage old.work; served = served }
 
-  call_done : (result : Progress) → result ≢ Failed → CallsOnce serves (call_of old) result old.disk to → CallDone serves old.disk to
+  call_done : (result : Progress) → result ≢ Failed → CallsOnce d (call_of old) (payload_of old) result old.disk to → CallDone serves old.disk to
   call_done result not c = by_result c.result c.served c.fault.1
     where
       by_result : (r : Result Unit DiskFault) → serves old.disk (call_of old) r to → (IsErr r → result ≡ Failed) → CallDone serves old.disk to
       by_result (Ok tt) served failed = ∣ one_call (Ok tt) served ∣₁
       by_result (Err f) served failed = absurd (not (failed refl))
 
-  call_failed : (result : Progress) → result ≡ Failed → CallsOnce serves (call_of old) result old.disk to → CallFailed serves old.disk to
+  call_failed : (result : Progress) → result ≡ Failed → CallsOnce d (call_of old) (payload_of old) result old.disk to → CallFailed serves old.disk to
   call_failed result is c = by_result c.result c.served c.fault.0
     where
       by_result : (r : Result Unit DiskFault) → serves old.disk (call_of old) r to → (result ≡ Failed → IsErr r) → CallFailed serves old.disk to
       by_result (Ok x) served failed = absurd (cc (failed is))
       by_result (Err f) served failed = ∣ (f, one_call (Err f) served) ∣₁
 
-  pub makes_one : (result : Progress) → CallsOnce serves (call_of old) result old.disk to → MakesOne serves result old.disk to
+  pub makes_one : (result : Progress) → CallsOnce d (call_of old) (payload_of old) result old.disk to → MakesOne serves result old.disk to
   makes_one More c = call_done More (λ e. absurd cc) c
   makes_one Done c = call_done Done (λ e. absurd cc) c
   makes_one Failed c = call_failed Failed refl c

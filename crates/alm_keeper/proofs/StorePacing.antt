@@ -1,7 +1,7 @@
 -- What the calls of a keeper make of an open checkpoint and of the use of its segment.
 use Rattle.std.proofs.Common.{◌≡◌, ◌≢◌, ◌≤◌, ◌+◌, ◌-◌, ◌*◌, ◌/◌, ◌==◌, ℕ, Bool, true, false, List, length, Some, Result, Ok, Err, OnOk, IfOk, if◌then◌else◌, refl, sym, ◌∙◌, ap, subst, arith}
 use Rattle.std.proofs.lemmas.Bool.{eqb-true, eqb-false, ne_eqb}
-use Rattle.alm_types.specs.declared.action.Action.{Action}
+use Rattle.alm_codec.specs.declared.asked.Asked.{Asked}
 use Rattle.alm_codec.specs.Versions.{is_full}
 use Rattle.alm_codec.proofs.Full.{newer_full}
 use Rattle.alm_store.specs.declared.progress.Progress.{Progress}
@@ -14,6 +14,7 @@ use Rattle.alm_keeper.specs.declared.stage.Work.{Work}
 use Rattle.alm_keeper.specs.declared.stage.Work.TheVariants.{Commit, Checkpoint}
 use Rattle.alm_keeper.specs.Stages.{IsWorking, first_stage, sent_stage, rest_stage, rest_work, phase_of}
 use Rattle.alm_store.specs.Advancing.{IsResting}
+use Rattle.alm_checkpoint.specs.Layouts.{image_size}
 use Rattle.alm_keeper.specs.Keeper.{KeeperView, used_room, first_run, piece, after_frame, sends, after_by, BeginsCommit, BeginsCheckpoint, Progresses}
 use Rattle.alm_store.specs.Pace.{most}
 use Rattle.alm_store.specs.Pace.{Going, IsInPace}
@@ -76,16 +77,16 @@ module _ {D : Type 0} (k : KeeperView D) where
   goes_by GateSync w is not works some = absurd (not refl)
 
   -- a frame goes out with the checkpoint that is open
-  grows : (c : Bool) → (c ≡ true → k.out + 1 ≤ k.run) → k.image ≤ 3289168 → length k.actions ≤ 256
-      → Grows (going_if c g) (going_if (is_checkpoint_open (rest_stage c) (rest_work c) c) (record { since = after_frame c k.run (length k.actions) - first_run k; pieces = pieces_out k.out (after_frame c k.run (length k.actions)) }))
+  grows : (c : Bool) → (c ≡ true → k.out + 1 ≤ k.run) → image_size k.layout ≤ 3289168 → length k.asked ≤ 256
+      → Grows (going_if c g) (going_if (is_checkpoint_open (rest_stage c) (rest_work c) c) (record { since = after_frame c k.run (length k.asked) - first_run k; pieces = pieces_out k.out (after_frame c k.run (length k.asked)) }))
   grows false to_come small few = refl
   grows true to_come small few =
       let some = to_come refl in
       let now = whole_pieces k.out k.run some in
-      let later = whole_pieces k.out (after_frame true k.run (length k.actions)) (omega (arith, some)) in
+      let later = whole_pieces k.out (after_frame true k.run (length k.asked)) (omega (arith, some)) in
       (omega arith, omega (arith, few), later ∙ sym now, omega (arith, now, some, small))
 
-  ends_by : (w : Work) → (w ≡ Commit → (length k.actions ≤ 256) × (k.copying ≡ true → k.out + 1 ≤ k.run)) → k.image ≤ 3289168
+  ends_by : (w : Work) → (w ≡ Commit → (length k.asked ≤ 256) × (k.copying ≡ true → k.out + 1 ≤ k.run)) → image_size k.layout ≤ 3289168
       → PaceAfter Done (phase_of GateSync w) (used_room k) (used_room (after_by GateSync w k)) (after_by GateSync w k).written (going_if (is_checkpoint_open GateSync w k.copying) g) (going_of (after_by GateSync w k))
   ends_by Commit frame small = let f = frame refl in (omega (arith, f.0), refl, grows k.copying f.1 small f.0)
   ends_by Checkpoint frame small = (omega arith, refl)
@@ -102,7 +103,7 @@ module _ {D : Type 0} (k : KeeperView D) where
   version_by GateSync Commit is = is
   version_by GateSync Checkpoint is = newer_full k.stored.version
 
-  segment_by : (s : Stage) (w : Work) → (after_by s w k).segment ≡ k.segment
+  segment_by : (s : Stage) (w : Work) → (after_by s w k).layout.segment ≡ k.layout.segment
   segment_by Idle w = refl
   segment_by Stopped w = refl
   segment_by Close w = refl
@@ -115,29 +116,29 @@ module _ {D : Type 0} (k : KeeperView D) where
   segment_by GateSync Checkpoint = refl
 
 module _ {D : Type 0} (old new : KeeperView D) where
-  segment_stays : (result : Progress) → Progresses result old new → new.segment ≡ old.segment
-  segment_stays More goes = ap (λ (k : KeeperView D). k.segment) goes.1 ∙ segment_by old old.stage old.work
-  segment_stays Done goes = ap (λ (k : KeeperView D). k.segment) goes.1 ∙ segment_by old old.stage old.work
-  segment_stays Failed goes = ap (λ (k : KeeperView D). k.segment) goes
+  segment_stays : (result : Progress) → Progresses result old new → new.layout.segment ≡ old.layout.segment
+  segment_stays More goes = ap (λ (k : KeeperView D). k.layout.segment) goes.1 ∙ segment_by old old.stage old.work
+  segment_stays Done goes = ap (λ (k : KeeperView D). k.layout.segment) goes.1 ∙ segment_by old old.stage old.work
+  segment_stays Failed goes = ap (λ (k : KeeperView D). k.layout.segment) goes
 
   pub newest_stays : (result : Progress) → Progresses result old new → is_full old.stored.version ≡ true → is_full new.stored.version ≡ true
   newest_stays More goes is = ap (λ (k : KeeperView D). is_full k.stored.version) goes.1 ∙ version_by old old.stage old.work is
   newest_stays Done goes is = ap (λ (k : KeeperView D). is_full k.stored.version) goes.1 ∙ version_by old old.stage old.work is
   newest_stays Failed goes is = ap (λ (k : KeeperView D). is_full k.stored.version) goes ∙ is
 
-  pub newest_begun : (result : Result Unit Refused) (actions : List Action) → BeginsCommit result actions old new → is_full old.stored.version ≡ true → is_full new.stored.version ≡ true
-  newest_begun (Ok u) actions begins is = ap (λ (k : KeeperView D). is_full k.stored.version) begins ∙ is
-  newest_begun (Err (no.NotAccepted place)) actions begins is = ap (λ (k : KeeperView D). is_full k.stored.version) begins ∙ is
-  newest_begun (Err no.Stopped) actions begins is = ap (λ (k : KeeperView D). is_full k.stored.version) begins ∙ is
-  newest_begun (Err no.Working) actions begins is = ap (λ (k : KeeperView D). is_full k.stored.version) begins ∙ is
-  newest_begun (Err no.Gap) actions begins is = ap (λ (k : KeeperView D). is_full k.stored.version) begins ∙ is
-  newest_begun (Err no.Exhausted) actions begins is = ap (λ (k : KeeperView D). is_full k.stored.version) begins ∙ is
+  pub newest_begun : (result : Result Unit Refused) (asked : List Asked) → BeginsCommit result asked old new → is_full old.stored.version ≡ true → is_full new.stored.version ≡ true
+  newest_begun (Ok u) asked begins is = ap (λ (k : KeeperView D). is_full k.stored.version) begins ∙ is
+  newest_begun (Err (no.NotAccepted place)) asked begins is = ap (λ (k : KeeperView D). is_full k.stored.version) begins ∙ is
+  newest_begun (Err no.Stopped) asked begins is = ap (λ (k : KeeperView D). is_full k.stored.version) begins ∙ is
+  newest_begun (Err no.Working) asked begins is = ap (λ (k : KeeperView D). is_full k.stored.version) begins ∙ is
+  newest_begun (Err no.Gap) asked begins is = ap (λ (k : KeeperView D). is_full k.stored.version) begins ∙ is
+  newest_begun (Err no.Exhausted) asked begins is = ap (λ (k : KeeperView D). is_full k.stored.version) begins ∙ is
 
   pub newest_copied : (result : Result Unit Refused) → BeginsCheckpoint result old new → is_full old.stored.version ≡ true → is_full new.stored.version ≡ true
   newest_copied (Ok u) begins is = ap (λ (k : KeeperView D). is_full k.stored.version) begins ∙ is
   newest_copied (Err why) begins is = ap (λ (k : KeeperView D). is_full k.stored.version) begins ∙ is
 
-  pace_after : (result : Progress) → IsWorking old.stage → old.image ≤ 3289168 → (IsWorking old.stage → old.work ≡ Commit → (length old.actions ≤ 256) × (old.copying ≡ true → old.out + 1 ≤ old.run))
+  pace_after : (result : Progress) → IsWorking old.stage → image_size old.layout ≤ 3289168 → (IsWorking old.stage → old.work ≡ Commit → (length old.asked ≤ 256) × (old.copying ≡ true → old.out + 1 ≤ old.run))
       → (old.stage ≡ Body → old.work ≡ Checkpoint → old.out + 1 ≤ old.run) → Progresses result old new → PaceAfter result (phase_of old.stage old.work) (used_room old) (used_room new) new.written (going_of old) (going_of new)
   pace_after More works small frame some goes =
       subst (λ (h : KeeperView D). PaceAfter More (phase_of old.stage old.work) (used_room old) (used_room h) h.written (going_of old) (going_of h)) (sym goes.1)
@@ -148,7 +149,7 @@ module _ {D : Type 0} (old new : KeeperView D) where
       (ends_by old old.work (λ is. frame works is) small))
   pace_after Failed works small frame some goes = tt
 
-  pub goes_on : (result : Progress) → IsWorking old.stage → old.image ≤ 3289168 → (IsWorking old.stage → old.work ≡ Commit → (length old.actions ≤ 256) × (old.copying ≡ true → old.out + 1 ≤ old.run))
+  pub goes_on : (result : Progress) → IsWorking old.stage → image_size old.layout ≤ 3289168 → (IsWorking old.stage → old.work ≡ Commit → (length old.asked ≤ 256) × (old.copying ≡ true → old.out + 1 ≤ old.run))
       → (old.stage ≡ Body → old.work ≡ Checkpoint → old.out + 1 ≤ old.run) → Progresses result old new → Goes result (store_state_of old) (store_state_of new)
   goes_on result works small frame some goes = record {
     segment = segment_stays result goes;
@@ -179,14 +180,14 @@ module _ {D : Type 0} (old new : KeeperView D) where
   abbrev Stays : KeeperView D → Type 0
   Stays h = SamePace (store_state_of old) (store_state_of h)
 
-  pub begun_pace : (result : Result Unit Refused) (actions : List Action) → (old.stage ≡ Idle → old.copying ≡ false) → (IsWorking old.stage → old.work ≡ Checkpoint → old.copying ≡ true)
-      → BeginsCommit result actions old new → IsResting (phase_of old.stage old.work) → Stays new
-  begun_pace result actions off on begins rest = by_result result begins
+  pub begun_pace : (result : Result Unit Refused) (asked : List Asked) → (old.stage ≡ Idle → old.copying ≡ false) → (IsWorking old.stage → old.work ≡ Checkpoint → old.copying ≡ true)
+      → BeginsCommit result asked old new → IsResting (phase_of old.stage old.work) → Stays new
+  begun_pace result asked off on begins rest = by_result result begins
     where
       same : going_if old.copying (run_of old) ≡ going_of old
       same = ap (λ (b : Bool). going_if b (run_of old)) (rest_open old.stage old.work old.copying rest off on)
 
-      by_result : (result : Result Unit Refused) → BeginsCommit result actions old new → Stays new
+      by_result : (result : Result Unit Refused) → BeginsCommit result asked old new → Stays new
       by_result (Ok u) begins = subst Stays (sym begins) (refl, refl, same)
       by_result (Err (no.NotAccepted place)) begins = subst Stays (sym begins) (refl, refl, same)
       by_result (Err no.Stopped) begins = subst Stays (sym begins) (refl, refl, refl)
@@ -205,9 +206,9 @@ module _ {D : Type 0} (old new : KeeperView D) where
   fresh (Err why) begins = tt
 
 -- a keeper that is opened has no checkpoint open
-pub opened_pace : {D : Type 0} (k : KeeperView D) → k.stage ≡ Idle → 2 * used_room k ≤ k.segment → KeepsPace (store_state_of k)
+pub opened_pace : {D : Type 0} (k : KeeperView D) → k.stage ≡ Idle → 2 * used_room k ≤ k.layout.segment → KeepsPace (store_state_of k)
 opened_pace k idle half =
-    subst (IsInPace k.segment (phase_of k.stage k.work) (used_room k) k.written)
+    subst (IsInPace k.layout.segment (phase_of k.stage k.work) (used_room k) k.written)
     (ap (λ (s : Stage). going_if (is_checkpoint_open s k.work k.copying) (run_of k)) (sym idle)) half
 
 pub if_ok : {A : Type 0} {E : Type 0} {P Q : A → Type 0} (result : Result A E) → IfOk result P → ((a : A) → P a → Q a) → IfOk result Q

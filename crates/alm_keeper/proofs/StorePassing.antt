@@ -1,6 +1,8 @@
 -- What the calls of a keeper make of its phase and its plants.
 use Rattle.std.proofs.Common.{◌≡◌, ◌≢◌, ◌↔◌, ◌≤◌, ◌+◌, ◌-◌, ◌==◌, Bool, true, false, List, if◌then◌else◌, Result, Ok, Err, OnOk, OnErr, refl, sym, ◌∙◌, ap, subst}
 use Rattle.alm_types.specs.declared.action.Action.{Action}
+use Rattle.alm_codec.specs.declared.asked.Asked.{Asked}
+use Rattle.alm_codec.specs.Frames.{asked_actions}
 use Rattle.alm_types.specs.Batches.{Judged}
 use Rattle.alm_model.specs.Plant.{Condensed}
 use Rattle.alm_store.specs.declared.phase.Phase.{Phase}
@@ -16,6 +18,7 @@ use Rattle.alm_keeper.specs.declared.stage.Work.TheVariants.{Commit, Checkpoint}
 use Rattle.alm_keeper.specs.Stages.{IsWorking, first_stage, sent_stage, rest_stage, rest_work, phase_of}
 use Rattle.alm_keeper.specs.Keeper.{KeeperView, Standing, next, next_by, begun_by, piece, commits, after_call, after_by, begin_answer, checkpoint_answer, BeginsCommit, BeginsCheckpoint, Progresses}
 use Rattle.alm_model.specs.Rules.{admits_all}
+use Rattle.alm_model.specs.Step.{run}
 use Rattle.alm_store.specs.Advancing.{Advanced, CheckpointIsNotOpened, CheckpointIsOpened, CommitIsBegun, CommitIsNotBegun, IsCheckpointing, IsResting}
 use Rattle.alm_store.specs.Pacing.{IsJustOpened}
 use Rattle.alm_keeper.specs.StoreLaws.{rests}
@@ -158,21 +161,21 @@ first_open true = tt
 first_open false = tt
 
 module _ {D : Type 0} (old new : KeeperView D) where
-  pub begun_commit : (result : Result Unit R.Refused) (actions : List Action) (batch : Judged) → result ≡ begin_answer (phase_of old.stage old.work) old.stored.plant batch → BeginsCommit result actions old new
+  pub begun_commit : (result : Result Unit R.Refused) (asked : List Asked) (actions : List Action) (batch : Judged) → asked_actions asked ≡ actions → result ≡ begin_answer (phase_of old.stage old.work) old.stored.plant batch → BeginsCommit result asked old new
       → OnOk result (admits_all old.stored.plant actions ≡ true) → OnOk result (Left new ≤ 4) → OnOk result (CommitIsBegun actions (store_state_of old) (store_state_of new))
-  begun_commit (Ok x) actions batch is goes admitted calls = record {
+  begun_commit (Ok x) asked actions batch same is goes admitted calls = record {
     resting = began (phase_of old.stage old.work) old.stored.plant batch x (sym is);
     committing = ap (λ (k : KeeperView D). phase_of k.stage k.work) goes;
-    next = ap (λ (k : KeeperView D). (next k).plant) goes;
+    next = ap (λ (k : KeeperView D). (next k).plant) goes ∙ ap (run old.stored.plant) same;
     admitted = admitted;
     calls = calls;
   }
-  begun_commit (Err why) actions batch is goes admitted calls = tt
+  begun_commit (Err why) asked actions batch same is goes admitted calls = tt
 
-  pub refused_phase : (result : Result Unit R.Refused) (actions : List Action) → BeginsCommit result actions old new → IsResting (phase_of old.stage old.work)
+  pub refused_phase : (result : Result Unit R.Refused) (asked : List Asked) → BeginsCommit result asked old new → IsResting (phase_of old.stage old.work)
       → OnErr result (CommitIsNotBegun (store_state_of old) (store_state_of new))
-  refused_phase (Ok x) actions goes rest = tt
-  refused_phase (Err (no.NotAccepted place)) actions goes rest =
+  refused_phase (Ok x) asked goes rest = tt
+  refused_phase (Err (no.NotAccepted place)) asked goes rest =
       let o = resting_other (phase_of old.stage old.work) rest in
       let p : phase_of new.stage new.work ≡ at.Stopped = ap (λ (k : KeeperView D). phase_of k.stage k.work) goes in (
         λ e. absurd (stopped (sym p ∙ e)),
@@ -181,10 +184,10 @@ module _ {D : Type 0} (old new : KeeperView D) where
     where
       stopped : at.Stopped ≡ at.Committing → ⊥
       stopped e = absurd cc
-  refused_phase (Err no.Stopped) actions goes rest = (λ e. (resting_other (phase_of old.stage old.work) rest).0 (sym (ap (λ (k : KeeperView D). phase_of k.stage k.work) goes) ∙ e), ap (λ (k : KeeperView D). (next k).plant) goes)
-  refused_phase (Err no.Working) actions goes rest = (λ e. (resting_other (phase_of old.stage old.work) rest).0 (sym (ap (λ (k : KeeperView D). phase_of k.stage k.work) goes) ∙ e), ap (λ (k : KeeperView D). (next k).plant) goes)
-  refused_phase (Err no.Gap) actions goes rest = (λ e. (resting_other (phase_of old.stage old.work) rest).0 (sym (ap (λ (k : KeeperView D). phase_of k.stage k.work) goes) ∙ e), ap (λ (k : KeeperView D). (next k).plant) goes)
-  refused_phase (Err no.Exhausted) actions goes rest = (λ e. (resting_other (phase_of old.stage old.work) rest).0 (sym (ap (λ (k : KeeperView D). phase_of k.stage k.work) goes) ∙ e), ap (λ (k : KeeperView D). (next k).plant) goes)
+  refused_phase (Err no.Stopped) asked goes rest = (λ e. (resting_other (phase_of old.stage old.work) rest).0 (sym (ap (λ (k : KeeperView D). phase_of k.stage k.work) goes) ∙ e), ap (λ (k : KeeperView D). (next k).plant) goes)
+  refused_phase (Err no.Working) asked goes rest = (λ e. (resting_other (phase_of old.stage old.work) rest).0 (sym (ap (λ (k : KeeperView D). phase_of k.stage k.work) goes) ∙ e), ap (λ (k : KeeperView D). (next k).plant) goes)
+  refused_phase (Err no.Gap) asked goes rest = (λ e. (resting_other (phase_of old.stage old.work) rest).0 (sym (ap (λ (k : KeeperView D). phase_of k.stage k.work) goes) ∙ e), ap (λ (k : KeeperView D). (next k).plant) goes)
+  refused_phase (Err no.Exhausted) asked goes rest = (λ e. (resting_other (phase_of old.stage old.work) rest).0 (sym (ap (λ (k : KeeperView D). phase_of k.stage k.work) goes) ∙ e), ap (λ (k : KeeperView D). (next k).plant) goes)
 
   pub opened_checkpoint : (result : Result Unit R.Refused) → result ≡ checkpoint_answer (phase_of old.stage old.work) old.stored.epoch → BeginsCheckpoint result old new → OnOk result (Left new ≤ 320)
       → OnOk result (IsJustOpened (going_of new)) → OnOk result (CheckpointIsOpened (store_state_of old) (store_state_of new))

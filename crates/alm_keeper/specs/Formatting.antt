@@ -1,8 +1,6 @@
 -- Formatting a device.
 use Rattle.std.specs.Prelude.{◌≡◌, ◌⊎◌, ℕ, ◌+◌, ◌≤◌, ◌||◌, true, false, List, [], ◌∷◌, ◌++◌, length, take, drop, Ok}
-use Rattle.alm_types.specs.Tables.{Listing}
 use Rattle.alm_model.specs.Plant.{Condensed}
-use Rattle.alm_model.specs.New.{new_plant}
 use Rattle.alm_codec.specs.declared.version.Version.{Version}
 use Rattle.alm_codec.specs.Image.{image_text}
 use Rattle.alm_disk.specs.Device.{DeviceState, IsImage, is_within}
@@ -22,16 +20,20 @@ abbrev pub IsUnformatted : List ℕ → Type 0
 IsUnformatted b = HasFault b Unformatted
 
 -- the layout has the longest segment that fits twice
-pub record IsLongest (size : ℕ) (t : Listing) (l : Layout) : Type 0 where
-  pub of_rows : l.rows ≡ length t.alarms
-  pub of_areas : l.areas ≡ t.areas
-  pub fits : segment_fits size (length t.alarms) t.areas l.segment ≡ true
-  pub most : (n : ℕ) → segment_fits size (length t.alarms) t.areas n ≡ true → n ≤ l.segment
+pub record IsLongest (size rows areas : ℕ) (l : Layout) : Type 0 where
+  pub of_rows : l.rows ≡ rows
+  pub of_areas : l.areas ≡ areas
+  pub fits : segment_fits size rows areas l.segment ≡ true
+  pub most : (n : ℕ) → segment_fits size rows areas n ≡ true → n ≤ l.segment
 
--- the bytes encode the new plant of the table in epoch 1 (its count is 0), with the longest segment that fits twice
-pub record IsNewDevice (size : ℕ) (t : Listing) (bytes : List ℕ) : Type 0 where
-  pub stands : Stands bytes 1 (new_plant t)
-  pub longest : IsLongest size t stands.opened.layout
+-- .. for the alarms and areas of a plant
+abbrev pub IsLongestFor : (size : ℕ) → Condensed → Layout → Type 0
+IsLongestFor size plant l = IsLongest size (length plant.panel.rows) (length plant.floods) l
+
+-- the bytes encode this plant in epoch 1, with the longest segment that fits twice
+pub record IsNewDevice (size : ℕ) (plant : Condensed) (bytes : List ℕ) : Type 0 where
+  pub stands : Stands bytes 1 plant
+  pub longest : IsLongestFor size plant stands.opened.layout
 
 -- the header of the bytes and the half that stands are of a version
 pub record IsOfVersion (version : Version) (bytes : List ℕ) : Type 0 where
@@ -97,6 +99,6 @@ MayBe size l header half b = IsUnformatted b ⊎ IsWritten size l header half b
 abbrev pub Leaves : (size : ℕ) → Layout → (header half : List ℕ) → (old new : DeviceState) → Type 0
 Leaves size l header half old new = LeavesBefore old new ⊎ ((b : List ℕ) → IsImage new b → MayBe size l header half b)
 
--- the same, of a table
-abbrev pub LeavesOf : (size : ℕ) → Listing → (old new : DeviceState) → Type 0
-LeavesOf size t old new = LeavesBefore old new ⊎ ((b : List ℕ) → IsImage new b → IsUnformatted b ⊎ IsNewDevice size t b)
+-- the same, of a plant
+abbrev pub LeavesOf : (size : ℕ) → Condensed → (old new : DeviceState) → Type 0
+LeavesOf size plant old new = LeavesBefore old new ⊎ ((b : List ℕ) → IsImage new b → IsUnformatted b ⊎ IsNewDevice size plant b)

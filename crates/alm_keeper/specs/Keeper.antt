@@ -1,5 +1,5 @@
 -- A keeper as its callers see it, and what each call makes of it.
-use Rattle.std.specs.Prelude.{◌≡◌, ◌≢◌, ◌↔◌, ℕ, ◌+◌, ◌-◌, ◌≤◌, ◌^◌, ◌==◌, min, Bool, true, false, List, [], length, Result, Ok, Err, IsErr, if◌then◌else◌}
+use Rattle.std.specs.Prelude.{◌≡◌, ◌≢◌, ◌↔◌, ℕ, ◌+◌, ◌-◌, ◌≤◌, ◌^◌, ◌==◌, min, Bool, true, false, List, [], ◌∷◌, ◌++◌, length, take, drop, Result, Ok, Err, IsErr, if◌then◌else◌}
 use Rattle.alm_types.specs.declared.action.Action.{Action}
 use Rattle.alm_types.specs.Batches.{Judged}
 use Rattle.alm_model.specs.Plant.{Condensed}
@@ -7,12 +7,20 @@ use Rattle.alm_model.specs.Step.{run}
 use Rattle.alm_disk.specs.declared.call.Call.{Call}
 use Rattle.alm_disk.specs.declared.call.Call.TheVariants.{Read, Write, Sync}
 use Rattle.alm_disk.specs.declared.disk_fault.DiskFault.{DiskFault}
+use Rattle.alm_disk.specs.declared.disk.Disk
+use Rattle.alm_disk.specs.Device.{DeviceState, Writes, Syncs}
+use Rattle.alm_codec.specs.declared.asked.Asked.{Asked}
+use Rattle.alm_codec.specs.Frames.{asked_actions, frame_body}
+use Rattle.alm_codec.specs.Image.{image_text}
 use Rattle.alm_codec.specs.declared.version.Version.{Version}
-use Rattle.alm_codec.specs.Versions.{AreBorne, newer}
+use Rattle.alm_codec.specs.Versions.{AreBorne, closed_gate, newer}
 use Rattle.alm_segment.specs.Course.{frame_len}
+use Rattle.alm_checkpoint.specs.declared.layout.Layout.{Layout}
 use Rattle.alm_checkpoint.specs.declared.half.Half.{Half}
 use Rattle.alm_checkpoint.specs.declared.half.Half.TheVariants.{First, Second}
-use Rattle.alm_checkpoint.specs.Layouts.{header_len, head_len, image_size, other}
+use Rattle.alm_checkpoint.specs.Layouts.{header_len, head_len, half_len, image_size, other}
+use Rattle.alm_checkpoint.specs.Headers.{half_head_text}
+use Rattle.alm_checkpoint.specs.Cut.{head_before}
 use Rattle.alm_checkpoint.specs.Opening.{Opened, opened_in}
 use Rattle.alm_checkpoint.specs.Standing.{Stands}
 use Rattle.alm_store.specs.declared.phase.Phase.{Phase}
@@ -46,15 +54,15 @@ pub record KeeperView (D : Type 0) : Type 0 where
   -- the half that stands; the gate of the other one reads open
   pub half : Half
   pub other_open : Bool
-  -- how long an image and a segment are
-  pub image : ℕ
-  pub segment : ℕ
+  -- where the halves lie, and how long their images and segments are
+  pub layout : Layout
   pub stored : Standing
-  -- the actions of the commit that is begun
-  pub actions : List Action
-  -- a checkpoint is open; how long its run is, and how many bytes of it went out
+  -- the actions of the commit that is begun, each with who asked
+  pub asked : List Asked
+  -- a checkpoint is open; how long its run is, its bytes, and how many of them went out
   pub copying : Bool
   pub run : ℕ
+  pub copied : List ℕ
   pub out : ℕ
   -- how many bytes of runs went out since the last commit's end or mark, up to the largest number
   pub written : ℕ
@@ -65,27 +73,27 @@ HasRoom s actions = frame_len actions + 1 ≤ s.room
 
 -- how long the run of a checkpoint is at first: the head from its offset 1, the image, and a closed gate
 abbrev pub first_run : {D : Type 0} → KeeperView D → ℕ
-first_run k = head_len + k.image
+first_run k = head_len + image_size k.layout
 
 -- how much of the segment is used: the place of its first closed gate
 abbrev pub used_room : {D : Type 0} → KeeperView D → ℕ
-used_room k = k.segment - k.stored.room
+used_room k = k.layout.segment - k.stored.room
 
 -- a frame of these actions fits, and the half may hold them
 abbrev pub HasRoomFor : Standing → List Action → Type 0
 HasRoomFor s actions = HasRoom s (length actions) × AreBorne s.version actions
 
 -- after a commit, and after a checkpoint with a run of this length
-abbrev pub with_actions : Standing → List Action → Standing
-with_actions s actions = record { version = s.version; epoch = s.epoch; plant = run s.plant actions; room = s.room - frame_len (length actions) }
+abbrev pub with_actions : Standing → List Asked → Standing
+with_actions s asked = record { version = s.version; epoch = s.epoch; plant = run s.plant (asked_actions asked); room = s.room - frame_len (length asked) }
 
 abbrev pub with_checkpoint : (half run : ℕ) → Standing → Standing
 with_checkpoint half run s = record { version = newer s.version; epoch = s.epoch + 1; plant = s.plant; room = half - run }
 
 -- what the work that is begun makes of what is stored
 abbrev pub begun_by : {D : Type 0} → Work → KeeperView D → Standing
-begun_by Commit k = with_actions k.stored k.actions
-begun_by Checkpoint k = with_checkpoint (head_len + k.image + k.segment) k.run k.stored
+begun_by Commit k = with_actions k.stored k.asked
+begun_by Checkpoint k = with_checkpoint (half_len k.layout) k.run k.stored
 
 abbrev pub begun_standing : {D : Type 0} → KeeperView D → Standing
 begun_standing k = begun_by k.work k
@@ -114,13 +122,12 @@ IsStoredIn s bytes = Stands bytes s.epoch s.plant
 abbrev pub StandsWithRoom : Standing → List ℕ → Type 0
 StandsWithRoom s bytes = (stands : Stands bytes s.epoch s.plant) × (stands.left ≡ s.room) × (stands.opened.head.version ≡ s.version)
 
--- the half that stands is this one, with an image and a segment of these lengths
-pub record LiesIn (half : Half) (image segment : ℕ) (bytes : List ℕ) : Type 0 where
+-- the half that stands is this one, of this layout
+pub record LiesIn (half : Half) (layout : Layout) (bytes : List ℕ) : Type 0 where
   pub opened : Opened
   pub opens : opened_in bytes ≡ Ok opened
   pub in_half : opened.half ≡ half
-  pub image_long : image_size opened.layout ≡ image
-  pub segment_long : opened.layout.segment ≡ segment
+  pub of_layout : opened.layout ≡ layout
 
 -- at any moment of the call that is next: until the gate's write begins they encode what is stored, from then on that or what is
 -- begun
@@ -149,14 +156,18 @@ checkpoint_answer phase epoch = Err no.Working
 -- ---- what a call makes of a keeper
 
 -- a batch with these actions: the commit is begun; a batch that isn't accepted stops the keeper, and no commit is begun
-abbrev pub BeginsCommit : {D : Type 0} → Result Unit Refused → List Action → (old new : KeeperView D) → Type 0
-BeginsCommit (Ok _) actions old new = new ≡ record old { stage = Body; work = Commit; actions = actions }
-BeginsCommit (Err (no.NotAccepted place)) actions old new = new ≡ record old { stage = Stopped; work = Commit; actions = [] }
-BeginsCommit (Err why) actions old new = new ≡ old
+abbrev pub BeginsCommit : {D : Type 0} → Result Unit Refused → List Asked → (old new : KeeperView D) → Type 0
+BeginsCommit (Ok _) asked old new = new ≡ record old { stage = Body; work = Commit; asked = asked }
+BeginsCommit (Err (no.NotAccepted place)) asked old new = new ≡ record old { stage = Stopped; work = Commit; asked = [] }
+BeginsCommit (Err why) asked old new = new ≡ old
+
+-- the run of a new checkpoint: the head of the other half in the next epoch, from its offset 1, the image, and a closed gate
+abbrev pub copy_text : Layout → Half → Standing → List ℕ
+copy_text l half s = half_head_text l (other half) (head_before (newer s.version) (s.epoch + 1) s.plant) ++ image_text s.plant ++ closed_gate (newer s.version) ∷ []
 
 -- the stored plant is copied, and the checkpoint is open
 abbrev pub BeginsCheckpoint : {D : Type 0} → Result Unit Refused → (old new : KeeperView D) → Type 0
-BeginsCheckpoint (Ok _) old new = new ≡ record old { stage = first_stage old.other_open; work = Checkpoint; copying = true; run = first_run old; out = 0 }
+BeginsCheckpoint (Ok _) old new = new ≡ record old { stage = first_stage old.other_open; work = Checkpoint; copying = true; run = first_run old; copied = copy_text old.layout old.half old.stored; out = 0 }
 BeginsCheckpoint (Err why) old new = new ≡ old
 
 -- the next piece if `left` bytes are left
@@ -175,13 +186,21 @@ abbrev pub after_frame : (copying : Bool) → (run actions : ℕ) → ℕ
 after_frame true run actions = run + frame_len actions
 after_frame false run actions = run
 
+-- .. over its closed gate, with the next epoch
+abbrev pub frame_copied : Standing → List Asked → (run : ℕ) → List ℕ → List ℕ
+frame_copied s asked run text = take (run - 1) text ++ 165 ∷ frame_body (newer s.version) (s.epoch + 1) (s.plant.panel.count + 1) asked
+
+abbrev pub copied_after : (copying : Bool) → Standing → List Asked → (run : ℕ) → List ℕ → List ℕ
+copied_after true s asked run text = frame_copied s asked run text
+copied_after false s asked run text = text
+
 -- a commit is done
 abbrev pub commits : {D : Type 0} → KeeperView D → KeeperView D
-commits k = record k { stage = rest_stage k.copying; work = rest_work k.copying; stored = with_actions k.stored k.actions; run = after_frame k.copying k.run (length k.actions); written = 0 }
+commits k = record k { stage = rest_stage k.copying; work = rest_work k.copying; stored = with_actions k.stored k.asked; run = after_frame k.copying k.run (length k.asked); copied = copied_after k.copying k.stored k.asked k.run k.copied; written = 0 }
 
 -- a checkpoint is done
 abbrev pub turns : {D : Type 0} → KeeperView D → KeeperView D
-turns k = record k { stage = Idle; half = other k.half; other_open = true; stored = begun_by Checkpoint k; copying = false }
+turns k = record k { stage = Idle; half = other k.half; other_open = true; stored = begun_by Checkpoint k; copying = false; copied = [] }
 
 -- the keeper after the call that is next was done
 abbrev pub after_by : {D : Type 0} → Stage → Work → KeeperView D → KeeperView D
@@ -202,10 +221,6 @@ Progresses Failed old new = new ≡ record old { disk = new.disk; stage = Stoppe
 
 -- ---- the device call
 
--- how long a half is: its head, its image and its segment
-abbrev pub half_size : {D : Type 0} → KeeperView D → ℕ
-half_size k = head_len + k.image + k.segment
-
 -- the start of a half of this length: its gate
 abbrev pub half_from : (size : ℕ) → Half → ℕ
 half_from size First = header_len
@@ -213,14 +228,14 @@ half_from size Second = header_len + size
 
 -- the gate that the work opens: the first closed one of the half that stands, or that of the other half
 abbrev pub gate_by : {D : Type 0} → Work → KeeperView D → ℕ
-gate_by Commit k = half_from (half_size k) k.half + half_size k - k.stored.room
-gate_by Checkpoint k = half_from (half_size k) (other k.half)
+gate_by Commit k = half_from (half_len k.layout) k.half + half_len k.layout - k.stored.room
+gate_by Checkpoint k = half_from (half_len k.layout) (other k.half)
 
 -- a write of a number of bytes at a place, or a sync. What follows the gate is the body of the frame, or the next piece of the
 -- run
 abbrev pub call_by : {D : Type 0} → Stage → Work → KeeperView D → Call
 call_by Close work k = Write (gate_by work k) 1
-call_by Body Commit k = Write (gate_by Commit k + 1) (frame_len (length k.actions))
+call_by Body Commit k = Write (gate_by Commit k + 1) (frame_len (length k.asked))
 call_by Body Checkpoint k = Write (gate_by Checkpoint k + k.out + 1) (piece (k.run - k.out))
 call_by Gate work k = Write (gate_by work k) 1
 call_by stage work k = Sync
@@ -228,6 +243,23 @@ call_by stage work k = Sync
 -- the device call that is next
 abbrev pub call_of : {D : Type 0} → KeeperView D → Call
 call_of k = call_by k.stage k.work k
+
+-- the bytes that it writes: a closed gate, a frame with who asked, a piece of the run, an open gate
+abbrev pub payload_by : {D : Type 0} → Stage → Work → KeeperView D → List ℕ
+payload_by Close work k = closed_gate k.layout.version ∷ []
+payload_by Body Commit k = frame_body k.stored.version k.stored.epoch (k.stored.plant.panel.count + 1) k.asked
+payload_by Body Checkpoint k = take (piece (k.run - k.out)) (drop k.out k.copied)
+payload_by Gate work k = 165 ∷ []
+payload_by stage work k = []
+
+abbrev pub payload_of : {D : Type 0} → KeeperView D → List ℕ
+payload_of k = payload_by k.stage k.work k
+
+-- what a call with these bytes makes of a device
+abbrev pub Makes : {E : Type 0} → Call → List ℕ → Result Unit E → (old new : DeviceState) → Type 0
+Makes (Read at n) text result old new = ⊥
+Makes (Write at n) text result old new = (length text ≡ n) × Writes at text result old new
+Makes Sync text result old new = Syncs result old new
 
 -- how many bytes a call writes
 abbrev pub bytes_of : Call → ℕ
@@ -239,8 +271,9 @@ bytes_of Sync = 0
 abbrev pub SendsPiece : {D : Type 0} → (old new : KeeperView D) → Type 0
 SendsPiece old new = (new.out ≡ old.out + bytes_of (call_of old)) × (new.written ≡ written_after old.written (bytes_of (call_of old)))
 
--- this call was made on the device and no other, and it failed if the result says so
-pub record CallsOnce {D : Type 0} (serves : D → Call → Result Unit DiskFault → D → Type 0) (call : Call) (told : Progress) (old new : D) : Type 0 where
+-- this call was made on the device and no other, with these bytes, and it failed if the result says so
+pub record CallsOnce {D : Type 0} (d : Disk.Ghosts D) (call : Call) (text : List ℕ) (told : Progress) (old new : D) : Type 0 where
   pub result : Result Unit DiskFault
-  pub served : serves old call result new
+  pub served : d.serves old call result new
+  pub makes : d.honest old → Makes call text result (d.state old) (d.state new)
   pub fault : (told ≡ Failed) ↔ IsErr result

@@ -244,6 +244,11 @@ EndsStep step old new = IsBookAfter old.stage old.work step old new
 
 -- ---- for callers
 
+-- the bytes of the run, while a checkpoint is open
+abbrev pub copied_in : Bool → List ℕ → List ℕ
+copied_in true text = text
+copied_in false text = []
+
 abbrev pub keeper_of : {D : Type 0} → D → Book → KeeperView D
 keeper_of disk b = record {
   disk = disk;
@@ -251,12 +256,12 @@ keeper_of disk b = record {
   work = b.work;
   half = b.half;
   other_open = b.other_open;
-  image = image_size b.layout;
-  segment = b.layout.segment;
+  layout = b.layout;
   stored = standing_by (account b);
-  actions = asked_actions b.actions.items;
+  asked = b.actions.items;
   copying = b.copying;
   run = b.run;
+  copied = copied_in b.copying (run_in b);
   out = b.out;
   written = b.written;
 }

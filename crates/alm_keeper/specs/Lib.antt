@@ -12,4 +12,5 @@ pub mod Formatting
 pub mod Moments
 pub mod Formatted
 pub mod AsStore
+pub mod Trail
 pub mod StoreLaws

@@ -1,7 +1,7 @@
 -- The device calls of a formatting in their order, and what a crash leaves at any moment of each.
 use Rattle.std.specs.Prelude.{Ok, Err}
 use Rattle.std.specs.Prelude.{◌≡◌, ◌⊎◌, ℕ, ◌+◌, List, [], ◌∷◌, ◌++◌, Result}
-use Rattle.alm_types.specs.Tables.{Listing}
+use Rattle.alm_model.specs.Plant.{Condensed}
 use Rattle.alm_disk.specs.Device.{DeviceState, IsImage}
 use Rattle.alm_disk.specs.declared.call.Call.{Call}
 use Rattle.alm_disk.specs.declared.call.Call.TheVariants.{Write, Sync}
@@ -9,7 +9,7 @@ use Rattle.alm_disk.specs.declared.disk_fault.DiskFault.{DiskFault}
 use Rattle.alm_checkpoint.specs.declared.layout.Layout.{Layout}
 use Rattle.alm_checkpoint.specs.declared.half.Half.TheVariants.{Second}
 use Rattle.alm_checkpoint.specs.Layouts.{half_at, image_size}
-use Rattle.alm_keeper.specs.Formatting.{IsUnformatted, IsLongest, IsNewDevice}
+use Rattle.alm_keeper.specs.Formatting.{IsUnformatted, IsLongestFor, IsNewDevice}
 
 -- the header's gate is closed; all else is written after it; the header's gate is opened
 pub data FormatPart : Type 0 where
@@ -63,8 +63,8 @@ pub record FailsIn {Dev : Type 0} (step : Result Unit DiskFault → FormatPart �
 abbrev pub Never : List ℕ → Type 0
 Never b = ⊥
 
--- a formatting of a device of a size for a table: its ten calls, all done (`Goes`) or up to one that failed (`FailsIn`)
-pub record Formats {Dev : Type 0} (course : (Result Unit DiskFault → FormatPart × Call → Dev → Dev → Type 0) → Dev → List (FormatPart × Call) → Dev → Type 0) (serves : Dev → Call → Result Unit DiskFault → Dev → Type 0) (state : Dev → DeviceState) (premise : Type 0) (size : ℕ) (t : Listing) (first last : Dev) : Type 0 where
+-- a formatting of a device of a size for a plant: its ten calls, all done (`Goes`) or up to one that failed (`FailsIn`)
+pub record Formats {Dev : Type 0} (course : (Result Unit DiskFault → FormatPart × Call → Dev → Dev → Type 0) → Dev → List (FormatPart × Call) → Dev → Type 0) (serves : Dev → Call → Result Unit DiskFault → Dev → Type 0) (state : Dev → DeviceState) (premise : Type 0) (size : ℕ) (plant : Condensed) (first last : Dev) : Type 0 where
   pub layout : Layout
-  pub longest : IsLongest size t layout
-  pub calls : course (FormatMoment serves state premise (IsNewDevice size t)) first (format_calls layout) last
+  pub longest : IsLongestFor size plant layout
+  pub calls : course (FormatMoment serves state premise (IsNewDevice size plant)) first (format_calls layout) last

@@ -110,4 +110,4 @@ goes_open k is = open_by k k.stage k.work is
 
 -- if there is room for the longest frame any batch is taken by a half of a version with all actions
 pub fits_any : {D : Type 0} (k : KeeperView D) (actions : List Action) → is_full k.stored.version ≡ true → length actions ≤ most_entries → TakesAny (store_state_of k) → HasRoomFor k.stored actions
-fits_any k actions newest few any = (room_for k.stored.room k.segment (length actions) few any, full_bears k.stored.version actions newest)
+fits_any k actions newest few any = (room_for k.stored.room k.layout.segment (length actions) few any, full_bears k.stored.version actions newest)

@@ -5,7 +5,7 @@ ghost use Rattle.alm_keeper.specs.Stages.{IsWorking};
 ghost use Rattle.alm_disk.specs.Device.{IsImage};
 ghost use Rattle.alm_disk.specs.Failures.{CountsFault, HasFailed};
 ghost use Rattle.alm_store.specs.Calls.{IsCall};
-ghost use Rattle.alm_keeper.specs.Keeper.{call_of, CallsOnce};
+ghost use Rattle.alm_keeper.specs.Keeper.{call_of, payload_of, Makes, CallsOnce};
 ghost use Rattle.alm_keeper.specs.Keeping.{keeper_of, InOrder, FitsDevice, Keeps, PassesOn, MayLeave, EndsStep};
 
 use crate::book::Book;
@@ -23,6 +23,9 @@ fn call_next<D: Disk>(disk: &mut D, book: &Book) -> Result<(), DiskFault>
     ensures size { D.size disk.new ≡ D.size disk.old }
     ensures count { CountsFault result (D.failures disk.old) (D.failures disk.new) }
     ensures serves { D.serves disk.old (call_of (keeper_of disk.old book.now)) result disk.new }
+    ensures makes { D.honest disk.old →
+        Makes (call_of (keeper_of disk.old book.now)) (payload_of (keeper_of disk.old book.now))
+        result (D.state disk.old) (D.state disk.new) }
     ensures is_call { D.honest disk.old → IsCall (D.state disk.old) (D.state disk.new) }
     ensures passes { D.honest disk.old → ∥ Keeps (D.state disk.old) book.now ∥₁ →
         ∥ PassesOn result (D.state disk.old) (D.state disk.new) book.now ∥₁ }
@@ -60,8 +63,8 @@ pub fn advance<D: Disk>(disk: &mut D, book: &mut Book) -> Progress
     ensures counts { (D.failures disk.old ≤ D.failures disk.new) ×
         (result ≢ Progress.Failed → D.failures disk.new ≡ D.failures disk.old) ×
         (result ≡ Progress.Failed → HasFailed (D.failures disk.old) (D.failures disk.new)) }
-    ensures call { CallsOnce D.serves (call_of (keeper_of disk.old book.old)) result disk.old
-        disk.new }
+    ensures call { CallsOnce ⟦<D as Disk>⟧ (call_of (keeper_of disk.old book.old))
+        (payload_of (keeper_of disk.old book.old)) result disk.old disk.new }
     ensures is_call { D.honest disk.old → IsCall (D.state disk.old) (D.state disk.new) }
     ensures keeps { D.honest disk.old → ∥ Keeps (D.state disk.old) book.old ∥₁ →
         ∥ Keeps (D.state disk.new) book.new ∥₁ }

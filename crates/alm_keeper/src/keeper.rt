@@ -4,8 +4,9 @@ ghost use Rattle.std.specs.Prelude.{◌≡◌, ◌≢◌, ◌≤◌, ◌⊎◌, 
 ghost use Rattle.alm_disk.specs.declared.call.Call.{Call};
 ghost use Rattle.alm_checkpoint.specs.declared.half.Half.{Half};
 ghost use Rattle.alm_checkpoint.specs.declared.layout.Layout.{Layout};
-ghost use Rattle.alm_checkpoint.specs.Layouts.{head_len, image_size};
+ghost use Rattle.alm_checkpoint.specs.Layouts.{half_len, image_size};
 ghost use Rattle.alm_keeper.specs.Calls.{reads_of};
+ghost use Rattle.alm_keeper.specs.Batch.{accepted_asked};
 ghost use Rattle.alm_disk.specs.Device.{IsImage};
 ghost use Rattle.alm_disk.specs.Failures.{HasFailed};
 ghost use Rattle.alm_disk.specs.Settled.{IsSettled};
@@ -13,16 +14,20 @@ ghost use Rattle.alm_model.specs.Judging.{accepted_of};
 ghost use Rattle.alm_store.specs.Calls.{IsCall, AreDone, SyncsAndEndsIn};
 ghost use Rattle.alm_keeper.specs.Stages.{IsWorking, phase_of};
 ghost use Rattle.alm_store.specs.Advancing.{IsResting};
+ghost use Rattle.alm_keeper.specs.Formatted.{IsFormatted, IsLeftBy};
 ghost use Rattle.alm_keeper.specs.Opening.{OpensAs, CountsAs};
-ghost use Rattle.alm_keeper.specs.Keeper.{KeeperView, next, HasRoom, HasRoomFor, IsPaused, IsStoredIn, StandsWithRoom, LiesIn, MayStand, begin_answer, checkpoint_answer, BeginsCommit, BeginsCheckpoint, Progresses, call_of, SendsPiece, CallsOnce};
+ghost use Rattle.alm_keeper.specs.Keeper.{KeeperView, next, HasRoom, HasRoomFor, IsPaused, IsStoredIn, StandsWithRoom, LiesIn, MayStand, begin_answer, checkpoint_answer, BeginsCommit, BeginsCheckpoint, Progresses, call_of, payload_of, SendsPiece, CallsOnce};
 ghost use Rattle.alm_types.specs.Sizes.{most_actions, most_entries};
 ghost use Rattle.alm_store.specs.Pace.{largest};
 ghost use Rattle.alm_checkpoint.specs.Layouts.{longest_segment};
 
 use crate::advancing::advance;
 use crate::book::Book;
+use crate::format_fault::FormatFault;
 use crate::opening::open_book;
 use crate::stage::{Stage, Work, is_working, phase_of};
+use crate::store_format::format_plant;
+use alm_codec::Version;
 use alm_disk::Disk;
 use alm_model::Alarms;
 use alm_plant::Plant;
@@ -59,8 +64,9 @@ impl<D: Disk + Drop> Keeper<D> {
         requires working { IsWorking self.old.stage }
         ensures honest { D.honest self.old.disk ↔ D.honest self.new.disk }
         ensures advances { Progresses result self.old self.new }
-        // Which call it is: a write of a number of bytes at this place, or a sync.
-        ensures call { CallsOnce D.serves (call_of self.old) result self.old.disk self.new.disk }
+        // Which call it is, and its bytes: of a commit its frame with who asked.
+        ensures call { CallsOnce ⟦<D as Disk>⟧ (call_of self.old) (payload_of self.old) result
+            self.old.disk self.new.disk }
         ensures piece { self.old.stage ≡ Stage.Body → self.old.work ≡ Work.Checkpoint →
             result ≢ Progress.Failed → SendsPiece self.old self.new }
         ensures is_call { D.honest self.old.disk →
@@ -91,7 +97,8 @@ impl<D: Disk + Drop> Keeper<D> {
         ensures disk { self.new.disk ≡ self.old.disk }
         ensures answer { result ≡
             begin_answer (phase_of self.old.stage self.old.work) self.old.stored.plant batch.now }
-        ensures begins { BeginsCommit result (accepted_of batch.now.entries) self.old self.new }
+        ensures begins { BeginsCommit result
+            (accepted_asked self.old.stored.version batch.now.entries) self.old self.new }
     {
         self.book.begin(batch)
     }
@@ -117,17 +124,17 @@ impl<D: Disk + Drop> Keeper<D> {
             ∥ StandsWithRoom self.now.stored (D.state self.now.disk).bytes ∥₁ }
         // The half that stands, and the lengths by which `call_of` has its places.
         ensures lies { D.honest self.now.disk → IsResting (phase_of self.now.stage self.now.work) →
-            ∥ LiesIn self.now.half self.now.image self.now.segment (D.state self.now.disk).bytes
-            ∥₁ }
+            ∥ LiesIn self.now.half self.now.layout (D.state self.now.disk).bytes ∥₁ }
         // The largest image, and the longest segment.
-        ensures lengths { (self.now.image ≤ largest) × (self.now.segment ≤ longest_segment) }
+        ensures lengths { (image_size self.now.layout ≤ largest) ×
+            (self.now.layout.segment ≤ longest_segment) }
         // The frames in the run of a checkpoint are among those of the segment.
         ensures runs { IsWorking self.now.stage → self.now.work ≡ Work.Checkpoint →
             (self.now.out ≤ self.now.run) ×
-            (self.now.run + self.now.stored.room ≤ head_len + self.now.image + self.now.segment) }
+            (self.now.run + self.now.stored.room ≤ half_len self.now.layout) }
         // A frame has at most 256 actions, and its commit comes before a piece of an open checkpoint,
         ensures frames { IsWorking self.now.stage → self.now.work ≡ Work.Commit →
-            (length self.now.actions ≤ most_entries) ×
+            (length self.now.asked ≤ most_entries) ×
             (self.now.copying ≡ true → self.now.out + 1 ≤ self.now.run) }
         // which has a byte or more.
         ensures pieces { self.now.stage ≡ Stage.Body → self.now.work ≡ Work.Checkpoint →
@@ -181,7 +188,7 @@ impl<D: Disk + Drop> Keeper<D> {
 
     /// How much of the segment is used: the place of its first closed gate.
     pub fn used(&self) -> u64
-        ensures { result + self.now.stored.room ≡ self.now.segment }
+        ensures { result + self.now.stored.room ≡ self.now.layout.segment }
     {
         self.book.used()
     }
@@ -209,8 +216,8 @@ impl<D: Disk + Drop> Keeper<D> {
 
     /// How many bytes a segment has: room for one frame of 256 actions and the next gate, or more.
     pub fn segment(&self) -> u64
-        ensures value { result ≡ self.now.segment }
-        ensures least { 4116 ≤ self.now.segment }
+        ensures value { result ≡ self.now.layout.segment }
+        ensures least { 4116 ≤ self.now.layout.segment }
     {
         u64::from(self.book.layout.segment)
     }
@@ -229,6 +236,22 @@ impl<D: Disk + Drop> Keeper<D> {
         ensures { IsTrue result ↔ HasRoomFor self.now.stored (accepted_of batch.now.entries) }
     {
         self.book.takes(batch)
+    }
+
+    /// Formats another device for the plant that is stored, in a version, as [`format_plant`] does.
+    pub fn format_copy<To: Disk + Drop>(
+        &self,
+        alloc: Global,
+        other: To,
+        version: Version,
+    ) -> Result<To, (FormatFault, To)>
+        ensures formatted { IfOk result
+            (IsFormatted To.serves To.state To.honest To.size version self.now.stored.plant other) }
+        ensures refused { IfErr result
+            (λ x. IsLeftBy x.0 To.serves To.state To.honest To.size To.failures
+            self.now.stored.plant other x.1) }
+    {
+        format_plant(alloc, other, &self.book.stored, version)
     }
 
     /// The device.
@@ -268,8 +291,7 @@ pub fn open_store<D: Disk + Drop>(alloc: Global, disk: D) -> Result<Keeper<D>, (
         IfOk result (λ k. (b : List ℕ) → IsImage (D.state k.disk) b → IsImage (D.state disk) b) }
     // Which calls it makes: a sync, and five reads, of each range once; if it is refused, these up to its fault.
     ensures made { MatchResult result
-        (λ k. (layout : Layout) × (image_size layout ≡ k.image) × (layout.segment ≡ k.segment) ×
-        AreDone D.serves (Call.Sync ∷ reads_of layout k.half) disk k.disk)
+        (λ k. AreDone D.serves (Call.Sync ∷ reads_of k.layout k.half) disk k.disk)
         (λ x. (layout : Layout) × (half : Half) ×
         SyncsAndEndsIn x.0 D.serves (reads_of layout half) disk x.1) }
     ensures unwritten_back { D.honest disk →

@@ -1,18 +1,23 @@
 //! Laws: each function does nothing, and its contract is the law.
 
-ghost use Rattle.std.specs.Prelude.{◌≡◌, ◌≤◌, ◌+◌, ℕ, Result, Ok};
+ghost use Rattle.std.specs.Prelude.{◌≡◌, ◌≤◌, ◌+◌, ◌∷◌, ◌++◌, [], ℕ, List, length, Result, Ok};
 ghost use Rattle.alm_disk.specs.Device.{DeviceState};
 ghost use Rattle.alm_disk.specs.declared.disk_fault.DiskFault.{DiskFault};
 ghost use Rattle.alm_types.specs.Batches.{Judged};
 ghost use Rattle.alm_model.specs.Plant.{Condensed};
-ghost use Rattle.alm_model.specs.Rules.{AllAdmitted};
+ghost use Rattle.alm_model.specs.Rules.{AllAdmitted, AreAdmitted};
 ghost use Rattle.alm_model.specs.Judging.{accepted_of};
 ghost use Rattle.alm_keeper.specs.Keeper.{begin_answer};
 ghost use Rattle.alm_store.specs.Pace.{least_segment, Going, Paced, IsPieceAhead};
 ghost use Rattle.alm_store.specs.Pacing.{KeepsPace, TakesAny};
 ghost use Rattle.alm_store.specs.State.{StoreState};
 ghost use Rattle.alm_keeper.specs.Phases.{UnderWay, KeptIn, MakesCall, WorkAdvances};
-ghost use Rattle.alm_keeper.specs.Stand.{Account, end_of_half};
+ghost use Rattle.alm_keeper.specs.Stand.{Account, TakesAsked, account_of, end_of_half};
+ghost use Rattle.alm_keeper.specs.Trail.{Says};
+ghost use Rattle.alm_keeper.specs.Formatting.{overwritten};
+ghost use Rattle.alm_codec.specs.declared.asked.Asked.{Asked};
+ghost use Rattle.alm_codec.specs.Frames.{IsFrame, asked_actions, frame_body};
+ghost use Rattle.alm_checkpoint.specs.Cut.{front};
 ghost use Rattle.alm_store.specs.declared.phase.Phase.{Phase};
 ghost use Rattle.alm_store.specs.Advancing.{IsResting};
 
@@ -21,6 +26,16 @@ pub fn next_batch_is_begun()
     ensures { (phase : Phase) (plant : Condensed) (batch : Judged) → IsResting phase →
         batch.first ≡ plant.panel.count + 1 → AllAdmitted plant (accepted_of batch.entries) →
         begin_answer phase plant batch ≡ Ok tt }
+{}
+
+/// After the two writes of a commit a device says also the actions of its frame, each with who asked.
+pub fn a_commit_says_who_asked()
+    ensures { (bytes : List ℕ) (before asked : List Asked) (s : Says before bytes) →
+        IsFrame s.cut.version s.cut.epoch (s.plant.panel.count + 1) asked →
+        AreAdmitted s.plant (asked_actions asked) →
+        TakesAsked (account_of s.cut s.plant) asked → Says (before ++ asked) (overwritten
+        (length (front s.cut)) (165 ∷ []) (overwritten (length (front s.cut) + 1) (frame_body
+        s.cut.version s.cut.epoch (s.plant.panel.count + 1) asked) bytes)) }
 {}
 
 /// What each device call leaves at any moment of it, done or failed, and what is kept after it was done. It covers a commit, a

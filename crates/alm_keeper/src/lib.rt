@@ -45,6 +45,7 @@
 //! | Batch | the accepted actions of a batch, each with the slot that asked, and how they are tried one after the other |
 //! | Formatting, Moments | what formatting makes: ten device calls in their order, and what a crash leaves at any moment of each |
 //! | Opening | what opening answers to the bytes |
+//! | Trail | which actions a device says since its image, each with who asked |
 //! | Calls | which device call is that of a stage, and which are those of an opening |
 //! | Stand, Resting, Piecewise, Phases, Keeping | what a keeper knows of its device: for the proofs |
 //!
@@ -54,8 +55,8 @@
 //!
 //! What is required of a device: that it is honest, as alm_disk defines it; of an opening's plant and fault, that it is so once the
 //! last byte was read. For every device these hold: safety, the answers of `begin`, and that `Failed` and `Disk` mean a failure of
-//! the device in that very call. Only `format` and `open_store` take
-//! memory: the room of each vector of a book never changes. Not covered: that memory suffices, which tests show; time; and that
+//! the device in that very call. Only formatting and `open_store` take memory: the
+//! room of each vector of a book never changes. Not covered: that memory suffices, which tests show; time; and that
 //! damaged bytes are found out (versions 01 and 02 have no checksum).
 //!
 //! Proved:
@@ -64,16 +65,17 @@
 //!   `Keeper::advance`, `images`)
 //! - a crash at any moment of a checkpoint leaves what is stored; from its last call but one on, in either epoch (by
 //!   `Keeper::advance`, `images`)
-//! - each `advance` makes one device call, and which is said; a checkpoint goes out in pieces of at most 65,536 bytes, with
-//!   commits between (by `Keeper::advance`, `paused`, `written_since`, `mark`)
+//! - each `advance` makes one device call, and which is said with its bytes: of a commit its frame, with the slot that asked each
+//!   action. A checkpoint goes out in pieces of at most 65,536 bytes, with commits between (by `Keeper::advance`, `begin`,
+//!   `begin_checkpoint`, `paused`, `written_since`, `mark`)
 //! - a begin is refused exactly as its contract says; `takes` is true exactly if a batch's frame fits and the half may hold
 //!   its kinds (by `begin`, `begin_checkpoint`, `takes`, `used`)
 //! - opening returns the plant, epoch and room that the bytes hold after its sync, or exactly their fault; else Disk, if it
 //!   failed, or out of memory (by `open_store`)
 //! - opening writes nothing: a sync and five reads. A refused one made the first of them, at the places of some layout, not
 //!   surely of the device's own (by `open_store`)
-//! - formatting makes its ten calls, with what a crash leaves at any moment of each; then the new plant stands in epoch 1
-//!   (by `format`, `format_as`)
+//! - formatting makes its ten calls, with what a crash leaves at any moment of each; then a table's new plant, or a given one,
+//!   stands in epoch 1 (by `format`, `format_as`, `format_plant`)
 #![tactic(auto)]
 
 mod advancing;
@@ -98,4 +100,4 @@ pub use alm_store::{OpenFault, Phase, Progress, Refused};
 pub use format_fault::FormatFault;
 pub use keeper::{Keeper, open_store};
 pub use stage::Stage;
-pub use store_format::{format, format_as};
+pub use store_format::{format, format_as, format_plant};

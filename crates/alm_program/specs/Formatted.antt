@@ -6,6 +6,7 @@ use Rattle.alm_codec.specs.declared.version.Version.{Version}
 use Rattle.alm_disk.specs.declared.disk.Disk
 use Rattle.alm_file.specs.Replay.{BeginsAs}
 use Rattle.alm_keeper.specs.Formatted.{IsFormatted}
+use Rattle.alm_model.specs.New.{new_plant}
 use Rattle.alm_table.specs.Faults.{ReadsAs, device_table}
 
 -- its rows, its areas, and the bytes of a segment
@@ -18,7 +19,7 @@ pub record IsMadeFor {D : Type 0} (d : Disk.Ghosts D) (start : List ℕ) (size :
   pub device : D
   pub begins : BeginsAs start (d.size device) (d.honest device) (d.state device)
   pub sized : d.size device ≡ size
-  pub formatted : IsFormatted d.serves d.state d.honest d.size version table device made
+  pub formatted : IsFormatted d.serves d.state d.honest d.size version (new_plant table) device made
 
 -- the same for the table of a text, at its size
 pub record IsFormattedFor {D : Type 0} (d : Disk.Ghosts D) (start : List ℕ) (version : Version) (text : List ℕ) (made : D) : Type 0 where

@@ -30,7 +30,7 @@ fn is_same_file<R: Files<File = File>>(rt: &R, one: &str, other: &str) -> bool {
 
 /// The layout of a device of this size for a table, with the longest segment that fits twice.
 fn layout_for(size: u64, table: &Table, version: Version) -> Result<Layout, Fault>
-    ensures longest { IfOk result (IsLongest size table.now) }
+    ensures longest { IfOk result (IsLongest size (length table.now.alarms) table.now.areas) }
     ensures too_small { IfErr result
         (λ fault. (fault ≡ Fault.TooSmall) × ((n : ℕ) →
         segment_fits size (length table.now.alarms) table.now.areas n ≡ false)) }
@@ -57,7 +57,8 @@ fn format_file<S: Start, R: Files<File = File> + AllocGlobal>(
     start: S,
 ) -> Result<Formatted<FileDisk<S>>, Fault>
     ensures longest { IfOk result
-        (λ done. (layout : Layout) × IsLongest size table.now layout ×
+        (λ done. (layout : Layout) ×
+        IsLongest size (length table.now.alarms) table.now.areas layout ×
         (layout.segment ≡ done.segment)) }
     ensures formatted { IfOk result
         (λ done. IsMadeFor ⟦<FileDisk<S> as Disk>⟧ S.Start.bytes size version table.now done.device) }

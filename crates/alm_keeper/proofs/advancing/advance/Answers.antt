@@ -38,5 +38,6 @@ returns-in-Ok-clause-call g c =
     record {
       result = c.call_next.result;
       served = c.call_next.ensures.serves;
+      makes = c.call_next.ensures.makes;
       fault = (λ failed. absurd (not_failed c.args.book.now.stage c.args.book.now.work c.go_on.result c.args.book.now c.go_on.new.self c.go_on.ensures.goes failed), λ err. absurd (fine err));
     }

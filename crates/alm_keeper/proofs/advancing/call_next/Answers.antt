@@ -2,7 +2,7 @@ use Rattle.std.proofs.Common.{◌≡◌, ◌≤◌, ◌<◌, ◌+◌, ℕ, lengt
 use Rattle.std.proofs.lemmas.List.{length-drop, length-take-le}
 use Rattle.std.proofs.Math.Logic.{∥∥₁_map}
 use Rattle.alm_keeper.proofs.Order.{commits, copies, sent_at, frames_by}
-use Rattle.alm_keeper.proofs.Called.{commit_call, piece_call, checkpoint_call}
+use Rattle.alm_keeper.proofs.Called.{commit_call, piece_call, checkpoint_call, commit_makes, piece_makes, checkpoint_makes}
 use Rattle.alm_disk.specs.declared.call.Call.{Call}
 use Rattle.alm_segment.specs.Course.{frame_len}
 use Rattle.alm_keeper.proofs.Going.{commit_passes, checkpoint_passes, piece_passes, run_size}
@@ -48,6 +48,26 @@ returns-in-Body-clause-serves g c =
     ap length c.piece.ensures ∙ length-take-le (piece_of b) (drop b.out (run_in b)) (omega (arith, run_size b i works on, sent, length-drop b.out (run_in b))) in
     subst (λ (call : Call). g.D.Disk.serves c.args.disk.now call c.call-in-Body.result c.call-in-Body.new.disk) (piece_call c.args.disk.now b (c.other_at.result + b.out) (length c.piece.result.now) c.in-Body.is c.in-Checkpoint.is (ap (λ (n : ℕ). n + b.out) c.other_at.ensures) long) c.call-in-Body.ensures.serves
 
+pub returns-in-Commit-clause-makes : goal.returns-in-Commit-clause-makes
+returns-in-Commit-clause-makes g c = λ honest.
+    let b = c.args.book.now in
+    let i = c.requires.in_order in
+    let w = commits b i c.requires.working c.in-Commit.is in
+    commit_makes c.args.disk.now b c.call.result (g.D.Disk.state c.args.disk.now) (g.D.Disk.state c.call.new.disk) i b.stage (take c.frame_len.result c.deref.result.now) c.in-Commit.is
+    ((λ i. take (c.frame_len.ensures i) (c.deref.ensures.value i)) ∙ w.text) (c.call.ensures.stage_call honest)
+
+pub returns-in-Body-clause-makes : goal.returns-in-Body-clause-makes
+returns-in-Body-clause-makes g c = λ honest.
+    let b = c.args.book.now in
+    let i = c.requires.in_order in
+    let works = c.requires.working in
+    let on = (copies b i works c.in-Checkpoint.is).0 in
+    let sent : b.out < b.run = sent_at b Body Checkpoint i tt c.in-Body.is c.in-Checkpoint.is on in
+    let long : length c.piece.result.now ≡ piece_of b =
+    ap length c.piece.ensures ∙ length-take-le (piece_of b) (drop b.out (run_in b)) (omega (arith, run_size b i works on, sent, length-drop b.out (run_in b))) in
+    piece_makes c.args.disk.now b c.call-in-Body.result (g.D.Disk.state c.args.disk.now) (g.D.Disk.state c.call-in-Body.new.disk) (c.other_at.result + b.out) c.piece.result.now c.in-Body.is c.in-Checkpoint.is on
+    (ap (λ (n : ℕ). n + b.out) c.other_at.ensures) c.piece.ensures long (c.call-in-Body.ensures.stage_call honest)
+
 pub returns-in_default : goal.returns-in_default
 returns-in_default g c = record {
   honest = c.call-in_default.ensures.honest;
@@ -56,6 +76,11 @@ returns-in_default g c = record {
   serves =
       let b = c.args.book.now in
       subst (λ (call : Call). g.D.Disk.serves c.args.disk.now call c.call-in_default.result c.call-in_default.new.disk) (checkpoint_call c.args.disk.now b b.stage c.other_at-in_default.result 0 c.in_default.not-Body c.other_at-in_default.ensures c.in-Checkpoint.is) c.call-in_default.ensures.serves;
+  makes = λ honest.
+      let old = g.D.Disk.state c.args.disk.now in
+      let new = g.D.Disk.state c.call-in_default.new.disk in
+      let b = c.args.book.now in
+      checkpoint_makes c.args.disk.now b c.call-in_default.result old new b.stage c.other_at-in_default.result _ c.in_default.not-Body c.other_at-in_default.ensures c.in-Checkpoint.is (c.call-in_default.ensures.stage_call honest);
   is_call = c.call-in_default.ensures.is_call;
   passes = λ honest keeps.
       let old = g.D.Disk.state c.args.disk.now in

@@ -33,7 +33,7 @@ pub returns-clause-newest : goal.returns-clause-newest
 returns-clause-newest g c = newest_stays c.args.self.now c.advance.new.self c.advance.result c.advance.ensures.advances
 
 pub returns-clause-one : goal.returns-clause-one
-returns-clause-one g c = makes_one g.D.Disk.serves c.args.self.now c.advance.new.self.disk c.advance.result c.advance.ensures.call
+returns-clause-one g c = makes_one g.D.Disk c.args.self.now c.advance.new.self.disk c.advance.result c.advance.ensures.call
 
 pub returns-clause-exhausted : goal.returns-clause-exhausted
 returns-clause-exhausted g c = λ least. stays_exhausted c.args.self.now c.advance.new.self c.advance.result c.advance.ensures.advances least

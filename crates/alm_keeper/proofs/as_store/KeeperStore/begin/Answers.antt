@@ -1,5 +1,7 @@
 use Rattle.alm_model.specs.Judging.{accepted_of}
+use Rattle.alm_keeper.specs.Batch.{accepted_asked}
 use Rattle.alm_keeper.specs.Stages.{phase_of}
+use Rattle.alm_keeper.proofs.Tried.{asked_accepted}
 use Rattle.alm_keeper.proofs.StoreBegun.{begun_admitted, begun_cause}
 use Rattle.alm_keeper.proofs.CallsLeft.{commit_calls}
 use Rattle.alm_keeper.proofs.StorePassing.{begun_commit, refused_phase}
@@ -15,17 +17,19 @@ returns-clause-begun g c =
     let new = c.begin.new.self in
     let result = c.begin.result in
     let e = c.begin.ensures in
-    let actions = accepted_of c.args.batch.now.entries in
-    begun_commit old new result actions c.args.batch.now e.answer e.begins
-    (begun_admitted result (phase_of old.stage old.work) old.stored.plant c.args.batch.now e.answer) (commit_calls result actions old new e.begins)
+    let version = old.stored.version in
+    let entries = c.args.batch.now.entries in
+    let asked = accepted_asked version entries in
+    begun_commit old new result asked (accepted_of entries) c.args.batch.now (asked_accepted version entries) e.answer e.begins
+    (begun_admitted result (phase_of old.stage old.work) old.stored.plant c.args.batch.now e.answer) (commit_calls result asked old new e.begins)
 
 pub returns-clause-refused : goal.returns-clause-refused
-returns-clause-refused g c = λ rest. refused_phase c.args.self.now c.begin.new.self c.begin.result (accepted_of c.args.batch.now.entries) c.begin.ensures.begins rest
+returns-clause-refused g c = λ rest. refused_phase c.args.self.now c.begin.new.self c.begin.result (accepted_asked c.args.self.now.stored.version c.args.batch.now.entries) c.begin.ensures.begins rest
 
 pub returns-clause-pace : goal.returns-clause-pace
 returns-clause-pace g c = λ rest.
     let i = c.images.ensures in
-    begun_pace c.args.self.now c.begin.new.self c.begin.result (accepted_of c.args.batch.now.entries) i.copies.0 i.copies.1 c.begin.ensures.begins rest
+    begun_pace c.args.self.now c.begin.new.self c.begin.result (accepted_asked c.args.self.now.stored.version c.args.batch.now.entries) i.copies.0 i.copies.1 c.begin.ensures.begins rest
 
 pub returns-clause-newest : goal.returns-clause-newest
-returns-clause-newest g c = newest_begun c.args.self.now c.begin.new.self c.begin.result (accepted_of c.args.batch.now.entries) c.begin.ensures.begins
+returns-clause-newest g c = newest_begun c.args.self.now c.begin.new.self c.begin.result (accepted_asked c.args.self.now.stored.version c.args.batch.now.entries) c.begin.ensures.begins

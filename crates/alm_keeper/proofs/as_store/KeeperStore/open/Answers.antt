@@ -20,7 +20,7 @@ returns-clause-pace g c = if_ok c.open_store.result c.open_store.ensures.idle (�
 
 pub returns-clause-made : goal.returns-clause-made
 returns-clause-made g c =
-    match_result c.open_store.result c.open_store.ensures.made (λ k m. opens_by g.D.Disk.serves c.args.from k.disk m.0 k.half m.3)
+    match_result c.open_store.result c.open_store.ensures.made (λ k m. opens_by g.D.Disk.serves c.args.from k.disk k.layout k.half m)
     (λ e m. refused_by e.0 g.D.Disk.serves c.args.from e.1 m.0 m.1 m.2)
 
 pub returns-clause-failed : goal.returns-clause-failed

@@ -9,7 +9,7 @@ pub returns-clause-advances : goal.returns-clause-advances
 returns-clause-advances g c = advances_of g.row.D.Denot c.self.inside.disk c.advance.new.disk c.self.inside.book c.advance.new.book c.args.self.now c.advance.result c.self.view_is c.advance.ensures.ends
 
 pub returns-clause-call : goal.returns-clause-call
-returns-clause-call g c = calls_of g.D.Disk.serves c.self.inside.disk c.advance.new.disk c.self.inside.book c.args.self.now c.advance.result c.self.view_is c.advance.ensures.call
+returns-clause-call g c = calls_of g.D.Disk c.self.inside.disk c.advance.new.disk c.self.inside.book c.args.self.now c.advance.result c.self.view_is c.advance.ensures.call
 
 pub returns-clause-piece : goal.returns-clause-piece
 returns-clause-piece g c = λ at is done.
