@@ -22,7 +22,7 @@ use alm_plant::Plant;
 use alm_types::Table;
 use std::alloc::{AllocError, Global};
 
-/// The layout of a device of a size for so many alarms and areas, with the longest segment that fits twice.
+/// The layout of a device of a size for these numbers of alarms and areas, with the longest segment that fits twice.
 fn layout_for(rows: u32, areas: u8, size: u64, version: Version) -> Option<Layout>
     ensures longest { IfSome result (IsLongest size rows areas) }
     ensures version { IfSome result (λ l. l.version ≡ version) }
