@@ -124,3 +124,27 @@ fn a_half_of_version_02_under_version_03(rt: HostRuntime) -> Result<(), Fail> {
     assert_eq!(rt; found, damaged(0, 32));
     Ok(())
 }
+
+#[test]
+fn a_copy_in_another_version(rt: HostRuntime) -> Result<(), Fail> {
+    let alloc = rt.alloc();
+    let keeper = of_version(alloc, Version::V02)?;
+    let Ok(copy) = keeper.format_copy(alloc, device(alloc, SIZE)?, Version::V03) else {
+        return Err(Fail::new("not formatted"));
+    };
+    drop(keeper);
+    let name = *b"ALMSRV03";
+    assert_eq!(rt; copy.bytes().get(1..9), Some(name.as_slice()));
+    let head = [
+        0xa5, 0, 0, 0, 0, 0, 0, 0, 1, 0xfd, 0, 0, 0, 0, 0, 0, 2, 0x79, 0x62, 0x41, 0x2f, 0xe9,
+        0x37, 0x52, 0xac,
+    ];
+    assert_eq!(rt; copy.bytes().get(23..48), Some(head.as_slice()));
+    let mut keeper = open(alloc, copy)?;
+    let found = (keeper.count(), keeper.epoch());
+    let stored = stores(&mut keeper, &priority(alloc)?);
+    drop(keeper);
+    assert_eq!(rt; found, (2, 1));
+    assert!(rt; stored);
+    Ok(())
+}
