@@ -47,7 +47,7 @@
 //! | Opening | what opening answers to the bytes |
 //! | Trail | which actions a device says since its image, each with who asked |
 //! | Calls | which device call is that of a stage, and which are those of an opening |
-//! | Stand, Resting, Piecewise, Phases, Keeping | what a keeper knows of its device: for the proofs |
+//! | Stand, Resting, Piecewise, Phases, Keeping | what a keeper knows of its device, of which two laws speak |
 //!
 //! What is used above: `any_moment` of [`Keeper::advance`]. It is stated by the relation `Stands` between bytes, an epoch and a
 //! plant, which alm_checkpoint defines for every reader of a device. [`Keeper::images`] says the same between calls. After `Done`
@@ -55,9 +55,8 @@
 //!
 //! What is required of a device: that it is honest, as alm_disk defines it; of an opening's plant and fault, that it is so once the
 //! last byte was read. For every device these hold: safety, the answers of `begin`, and that `Failed` and `Disk` mean a failure of
-//! the device in that very call. Only formatting and `open_store` take memory: the
-//! room of each vector of a book never changes. Not covered: that memory suffices, which tests show; time; and that
-//! damaged bytes are found out (versions 01 and 02 have no checksum).
+//! the device in that very call. Only formatting and `open_store` take memory: the room of each vector of a book never changes. Not
+//! covered: that memory suffices, which tests show; time; and that damaged bytes are found out (versions 01 and 02 have no checksum).
 //!
 //! Proved:
 //! - a keeper is a store as alm_store asks (by `Keeper`)

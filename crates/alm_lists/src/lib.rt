@@ -9,5 +9,5 @@
 //! by a key, and consist of exactly the numbers that pass a test, each once. There is only one such list, the filter
 //! sorted by the key (`sorted_filter-is` in `proofs/Sorted.antt`).
 //!
-//! The crate has no code, so there is nothing to call. A law is proved here if a contract of another crate needs it.
+//! The crate has no code, so there is nothing to call, and no body that could be wrong. A law is proved here if a contract of another crate needs it.
 #![tactic(auto)]

@@ -1,6 +1,6 @@
 //! Progress: no request in the server's design is stuck, lost or starved. These are laws of the world of plain lists that the
 //! headline is about (alm_pipeline, specs/World.antt), in which sequencer, flusher and receivers step in any order. Each function
-//! does nothing, and its contract is the law.
+//! does nothing, and its contract is the law: so there is no wrong body of one.
 //!
 //! | law | says |
 //! |---|---|

@@ -25,7 +25,8 @@
 //! How fast an open checkpoint goes out is said by what each call makes of it (Pacing). A piece of at most 65,536 bytes goes out
 //! by each call of a paused store. A commit adds one frame, and a checkpoint that is done leaves the frames that came into it.
 //!
-//! Not covered: that there is room for a batch. A store that keeps its pace has it.
+//! Not covered: that there is room for a batch. A store that keeps its pace has it. The crate has a trait and no body; wrong bodies
+//! of a store stand in alm_keeper.
 //!
 //! Proved:
 //! - what a store promises to all above it: each image holds the stored plant or the next one; one write or one sync a step

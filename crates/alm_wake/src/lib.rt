@@ -14,7 +14,7 @@
 //!
 //! [`Flags`] are what they share: hints, each read before the step that it bounds. A lost wake-up costs 100 milliseconds, and a
 //! second at a slot: then each thread checks by itself. docs/develop/WAKING.md has the states of the two threads, and who reads and writes
-//! each atomic. All numbers stand in `bounds`.
+//! each atomic. The numbers stand in `bounds`, but for a slot's second, which its port has (alm_serve).
 //!
 //! Not covered: how long anything takes, since no contract speaks of time that passes. Nor what an atomic has, so that a bell is rung:
 //! the tests of alm_wake_tests ask who is woken.
