@@ -24,7 +24,7 @@ from .suppressed import Suppressions
 from .watched_server import PATIENCE, WatchedServer
 
 # Seconds between two looks, and to wait for the reply to an action, which has to be stored.
-PERIOD, ACTION_PATIENCE = 0.1, 5.0
+PERIOD, ACTION_PATIENCE = 0.05, 5.0
 # Why nothing is shown of a server that knows no ROW or no SINCE.
 EARLIER = "the server is of an earlier release than this tool"
 # Actions that are asked before the plant is looked at again.
@@ -32,7 +32,7 @@ PART = 64
 
 
 class Watch:
-    """Looks each tenth of a second, tells what is new, and does orders."""
+    """Looks each twentieth of a second, tells what is new, and does orders."""
 
     def __init__(
         self,
