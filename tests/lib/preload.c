@@ -17,8 +17,9 @@
  *     ALM_BODY=stale                 stands for one that takes what the file ALM_STALE has for what it read
  *     ALM_BYTES=FILE                 the positional calls and syncs that were made, a line each: name, place and bytes in hexadecimal
  *
- * CALL is pwrite, pread, fdatasync, fsync, fadvise, ftruncate, openat, statx, memory (each request for it), thread (each that is
- * started), read (of standard input), or device: any of pwrite, pread, fdatasync. KIND is
+ * CALL is pwrite, pread, fdatasync, fsync, fadvise, ftruncate, openat, statx, unlink, rename, fchown, fchmod, realpath, lock (flock),
+ * memory (each request for it), thread (each that is started), read (of standard input), or device: any of pwrite, pread, fdatasync.
+ * KIND is
  *
  *     eio, enospc   the call does nothing and fails so (of memory or a thread: it is refused)
  *     disk          while the call runs the file ALM_DISK exists, which makes the disk below fail (badfs.c)
@@ -28,7 +29,8 @@
  *     kill          the process is killed before the call
  *     old new zeros a5 ff alternating mixed
  *                   the power fails in the call: what was written since the last sync, this call's bytes too, becomes what stood
- *                   there before, or what was written, or such bytes, or byte for byte by lot one of these. Then the process is killed
+ *                   there before, or what was written, or such bytes, or byte for byte by lot one of these. Then the process is killed.
+ *                   A rename is on the disk then
  *
  * A device is the file whose calls are positional; each file has its own list of pending writes.
  */
@@ -54,10 +56,30 @@
 #include <sys/types.h>
 #include <unistd.h>
 
-enum call { PWRITE, PREAD, FDATASYNC, FSYNC, FADVISE, FTRUNCATE, OPENAT, STATX, MEMORY, THREAD, READ, DEVICE, CALLS };
+enum call {
+    PWRITE,
+    PREAD,
+    FDATASYNC,
+    FSYNC,
+    FADVISE,
+    FTRUNCATE,
+    OPENAT,
+    STATX,
+    UNLINK,
+    RENAME,
+    FCHOWN,
+    FCHMOD,
+    REALPATH,
+    LOCK,
+    MEMORY,
+    THREAD,
+    READ,
+    DEVICE,
+    CALLS
+};
 
-static const char *const names[CALLS] = {"pwrite", "pread", "fdatasync", "fsync", "fadvise", "ftruncate",
-                                         "openat", "statx", "memory",    "thread", "read",   "device"};
+static const char *const names[CALLS] = {"pwrite", "pread",  "fdatasync", "fsync",    "fadvise", "ftruncate", "openat", "statx", "unlink",
+                                         "rename", "fchown", "fchmod",    "realpath", "lock",    "memory",    "thread", "read",  "device"};
 
 struct pending {
     struct pending *next;
@@ -268,19 +290,26 @@ static void tell_met(void) {
     if (met) syscall(SYS_close, syscall(SYS_openat, AT_FDCWD, met, O_WRONLY | O_CREAT, 0644));
 }
 
+static bool is_kind(const char *name) { return !strcmp(kind, name); }
+
+/* Whether the power shall fail in the call. */
+static bool cuts_power(void) {
+    return !is_kind("kill") && !is_kind("held") && !is_kind("eio") && !is_kind("enospc") && !is_kind("short") && !is_kind("disk");
+}
+
 /* Does what shall be done at this call, and says whether it fails. */
 static bool fails(void) {
     tell_met();
-    if (!strcmp(kind, "kill")) die();
-    if (!strcmp(kind, "held")) {
+    if (is_kind("kill")) die();
+    if (is_kind("held")) {
         while (met && !syscall(SYS_access, met, F_OK)) usleep(10000);
         return false;
     }
-    if (!strcmp(kind, "eio") || !strcmp(kind, "enospc")) {
+    if (is_kind("eio") || is_kind("enospc")) {
         errno = kind[1] == 'i' ? EIO : ENOSPC;
         return true;
     }
-    if (strcmp(kind, "short") && strcmp(kind, "disk")) fail_power();
+    if (cuts_power()) fail_power();
     return false;
 }
 
@@ -393,7 +422,37 @@ ssize_t pread(int file, void *into, size_t length, off_t at) { return read_at(fi
 ssize_t pread64(int file, void *into, size_t length, off_t at) { return read_at(file, into, length, at); }
 int flock(int file, int how) {
     list_as(how & LOCK_UN ? "unlock" : how & LOCK_SH ? "lock-shared" : "lock", file, NULL, 0, 0);
+    if (is_wanted(LOCK) && fails()) return -1;
     return syscall(SYS_flock, file, how);
+}
+int unlink(const char *path) {
+    list(UNLINK, -1, path, 0, 0);
+    if (is_wanted(UNLINK) && fails()) return -1;
+    return syscall(SYS_unlink, path);
+}
+int rename(const char *from, const char *to) {
+    list(RENAME, -1, from, 0, 0);
+    list_as("onto", -1, to, 0, 0);
+    bool hit = is_wanted(RENAME);
+    if (hit && cuts_power()) syscall(SYS_rename, from, to);
+    if (hit && fails()) return -1;
+    return syscall(SYS_rename, from, to);
+}
+int fchown(int file, uid_t owner, gid_t group) {
+    list(FCHOWN, file, NULL, 0, 0);
+    if (is_wanted(FCHOWN) && fails()) return -1;
+    return syscall(SYS_fchown, file, owner, group);
+}
+int fchmod(int file, mode_t mode) {
+    list(FCHMOD, file, NULL, 0, 0);
+    if (is_wanted(FCHMOD) && fails()) return -1;
+    return syscall(SYS_fchmod, file, mode);
+}
+char *realpath(const char *path, char *into) {
+    static char *(*real)(const char *, char *);
+    if (is_wanted(REALPATH) && fails()) return NULL;
+    if (!real) real = dlsym(RTLD_NEXT, "realpath");
+    return real(path, into);
 }
 int setsockopt(int file, int level, int option, const void *value, socklen_t length) {
     int answer = syscall(SYS_setsockopt, file, level, option, value, length), error = errno;

@@ -1,6 +1,6 @@
 -- What the program is asked of a server.
 use Rattle.std.specs.Prelude.{◌≡◌, ℕ, List, Option, Some, None, IsNone, string_bytes}
-use Rattle.alm_program.specs.Orders.{JobOrder, desk, export, format, order_in, serve, show}
+use Rattle.alm_program.specs.Orders.{JobOrder, desk, export, format, order_in, serve, show, upgrade}
 use Rattle.alm_program.specs.OwnedEndpoints.{at_of}
 use Rattle.alm_program.specs.declared.serve_order.ServeOrder.{ServeOrder}
 
@@ -11,6 +11,7 @@ IsOrderOf (serve device at conns patience) (Some asked) =
 IsOrderOf (serve device at conns patience) None = ⊥
 IsOrderOf (desk device) asked = IsNone asked
 IsOrderOf (format device table version) asked = IsNone asked
+IsOrderOf (upgrade device version) asked = IsNone asked
 IsOrderOf (show device) asked = IsNone asked
 IsOrderOf (export device) asked = IsNone asked
 

@@ -14,6 +14,11 @@ pub enum Job<'a> {
         table: &'a str,
         version: Version,
     },
+    /// Brings a device to a version, with its plant.
+    Upgrade {
+        device: &'a str,
+        version: Version,
+    },
     /// Prints the plant of a device.
     Show(&'a str),
     /// Prints the table of a device's plant as a table file.

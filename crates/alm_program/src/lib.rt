@@ -69,6 +69,8 @@ mod owned_endpoints;
 mod program;
 mod serve_order;
 mod showing;
+mod upgraded;
+mod upgrading;
 mod words;
 mod words_fault;
 

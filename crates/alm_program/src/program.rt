@@ -19,6 +19,7 @@ use crate::job::Job;
 use crate::owned_endpoints::OwnedEndpoints;
 use crate::serve_order::ServeOrder;
 use crate::showing::run_show;
+use crate::upgrading::run_upgrade;
 use crate::words::job_of;
 use alm_file::{Unknown, fill_streams};
 use std::alloc::{AllocError, Global};
@@ -88,6 +89,9 @@ fn run_job<'a, R: Input + Print + Files<File = File> + AllocGlobal>(
             table,
             version,
         } => drop(run_format(rt, device, table, version, Unknown)?),
+        Job::Upgrade { device, version } => {
+            drop(run_upgrade(rt, device, version, Unknown, Unknown)?)
+        }
         Job::Show(device) => run_show(rt, device, Unknown)?,
         Job::Export(device) => run_export(rt, device, Unknown)?,
         Job::Serve {
