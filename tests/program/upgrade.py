@@ -19,6 +19,7 @@ import subprocess
 import sys
 import time
 
+from lib.places import EXAMPLES
 from lib.program import Course, Fault, Wrong, as_user, begin, check, finish, run_words
 from lib.summed_device import CLOSED, HEAD, HEADER, MARK_03, OPEN, SummedDevice
 
@@ -27,7 +28,13 @@ from upgraded import NONE, Failing, answers, content
 # The names that a release before 0.4.0 knows.
 EARLIER = (b"ALMSRV01", b"ALMSRV02")
 MARK_02 = 2
+EARLIEST = str(EXAMPLES / "earlier_release" / "plant.device")
 NOBODY = 65534
+
+
+def count_in(before: list[bytes]) -> int:
+    """The count of actions that a device's answers show."""
+    return int(before[0].split()[3])
 
 
 def check_spelled(path: str, version: str, count: int) -> None:
@@ -56,7 +63,7 @@ class Scenes(Failing):
         run = run_words(self.program, ["desk", self.device], lines=b"".join(course.lines[:half]))
         check(run.stdout == b"".join(course.replies[:half]), "the desk's first half")
         before = answers(self.program, self.device)
-        count = int(before[0].split()[3])
+        count = count_in(before)
         for version, other in (("03", "02"), ("02", "03")):
             mid[other] = os.path.join(self.folder, f"mid{other}")
             shutil.copyfile(self.device, mid[other])
@@ -68,6 +75,16 @@ class Scenes(Failing):
         image = slice(HEADER + HEAD, one.begins)
         check(one.bytes[image] == other.bytes[image], "the image of 02 is another one than that of 03")
         return mid
+
+    def earlier(self) -> None:
+        """A device of version 01 becomes one of either."""
+        for version in ("02", "03"):
+            self.put(EARLIEST)
+            before = answers(self.program, self.device)
+            count = count_in(before)
+            self.upgrades(version, count)
+            check_spelled(self.device, version, count)
+            check(answers(self.program, self.device) == before, "version 01 as", version, "answers otherwise")
 
     def in_use(self, source: str) -> None:
         """A device that a process has open is refused; while one is upgraded, none gets it."""
@@ -183,10 +200,11 @@ def main() -> None:
         scenes.there_and_back(Course(program, folder, 7, 420))
         course = Course(program, folder, 5, 60)
         mid = scenes.there_and_back(course)
-        count = int(answers(program, mid["02"])[0].split()[3])
+        count = count_in(answers(program, mid["02"]))
         for version, source in (("03", mid["02"]), ("02", mid["03"])):
             scenes.calls_fail(source, version)
         scenes.memory_fails(mid["02"])
+        scenes.earlier()
         scenes.in_use(mid["02"])
         scenes.no_device(mid["02"])
         scenes.in_the_way(mid["02"], count)

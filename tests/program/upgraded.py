@@ -125,6 +125,7 @@ class Failing(Upgrades):
 
     def judge(self, run: subprocess.CompletedProcess, fault: Fault, is_last: bool, source: str, inode: int) -> None:
         """What was reported of a failed call, and what stands."""
+        check(os.path.exists(self.device), fault.text, "no file has the name")
         is_old = os.stat(self.device).st_ino == inode
         if is_old:
             check(content(self.device) == content(source), fault.text, "the old device was written")
