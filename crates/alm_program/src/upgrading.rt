@@ -6,7 +6,8 @@ ghost use Rattle.alm_disk.specs.Settled.{IsSettled};
 ghost use Rattle.alm_disk.specs.declared.call.Call.{Call};
 ghost use Rattle.alm_file.specs.Replay.{BeginsAs};
 ghost use Rattle.alm_lines.specs.Written.{Prints};
-ghost use Rattle.alm_program.specs.Upgraded.{IsMadeWith, IsReadFrom, IsUpgraded, upgraded_text, version_text};
+ghost use Rattle.alm_program.specs.Formatted.{IsMadeFor};
+ghost use Rattle.alm_program.specs.Upgraded.{IsReadFrom, IsUpgraded, upgraded_text, version_text};
 
 use crate::fault::Fault;
 use crate::io_faults::{file_fault, io_fault};
@@ -15,7 +16,7 @@ use alm_checkpoint::{HEADER_LEN, Layout, read_header};
 use alm_codec::Version;
 use alm_disk::Disk;
 use alm_file::{FileDisk, Start, Successor};
-use alm_keeper::{Keeper, format_plant, open_store};
+use alm_keeper::{Keeper, open_store};
 use alm_lines::{Part, put_parts};
 use std::alloc::Global;
 use std::fs::{File, Files};
@@ -81,7 +82,7 @@ fn make_new<D: Disk + Drop, S: Start, R: Files<File = File> + AllocGlobal>(
     start: S,
 ) -> Result<FileDisk<S>, Fault>
     ensures { IfOk result
-        (IsMadeWith ⟦<FileDisk<S> as Disk>⟧ S.Start.bytes old.now.size version
+        (IsMadeFor ⟦<FileDisk<S> as Disk>⟧ S.Start.bytes old.now.size version
         old.now.keeper.stored.plant) }
 {
     let used = old.layout.device_len();
@@ -89,7 +90,7 @@ fn make_new<D: Disk + Drop, S: Start, R: Files<File = File> + AllocGlobal>(
         Ok(disk) => disk,
         Err(fault) => return Err(file_fault(fault)),
     };
-    match format_plant(rt.alloc(), disk, old.keeper.stored(), version) {
+    match old.keeper.format_copy(rt.alloc(), disk, version) {
         Ok(device) => Ok(device),
         Err((fault, _)) => Err(Fault::from(fault)),
     }
@@ -104,7 +105,7 @@ fn replace<D: Disk + Drop, S: Start, R: Files<File = File> + AllocGlobal>(
     start: S,
 ) -> Result<FileDisk<S>, Fault>
     ensures { IfOk result
-        (IsMadeWith ⟦<FileDisk<S> as Disk>⟧ S.Start.bytes old.now.size version
+        (IsMadeFor ⟦<FileDisk<S> as Disk>⟧ S.Start.bytes old.now.size version
         old.now.keeper.stored.plant) }
 {
     let device = make_new(rt, successor, old, version, start)?;
