@@ -3,7 +3,7 @@ _alm_server() {
     local cur=${COMP_WORDS[COMP_CWORD]} prev=${COMP_WORDS[COMP_CWORD - 1]}
     COMPREPLY=()
     if [ "$COMP_CWORD" -eq 1 ]; then
-        mapfile -t COMPREPLY < <(compgen -W "desk export format serve show upgrade" -- "$cur")
+        mapfile -t COMPREPLY < <(compgen -W "desk export format serve show upgrade --help --version" -- "$cur")
     elif [ "$prev" = --sockets ]; then
         mapfile -t COMPREPLY < <(compgen -d -- "$cur")
     elif [ "$prev" = --port ] || [ "$prev" = --conns ] || [ "$prev" = --patience ]; then

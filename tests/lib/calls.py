@@ -159,8 +159,8 @@ def check_made(made, layout):
 
 
 def check_upgraded(made, layout):
-    """`upgrade` reads the header and opens the device, which it doesn't write. The new file has its owner before a byte.
-    It is on the disk as a whole before it takes the device's name, and then the folder is."""
+    """`upgrade` reads the header and opens the device, and doesn't write it. The new file has its owner before a byte.
+    All of it is on the disk before it takes the device's name, and then the folder is."""
     opened = opening()
     check_list(made[: len(opened)], [*opened[:-1], ("pread", 0, HEADER)], "upgrade")
     rest = split_opening(made[len(opened) :], [SYNC], "upgrade")

@@ -17,9 +17,9 @@
  *     ALM_BODY=stale                 stands for one that takes what the file ALM_STALE has for what it read
  *     ALM_BYTES=FILE                 the positional calls and syncs that were made, a line each: name, place and bytes in hexadecimal
  *
- * CALL is pwrite, pread, fdatasync, fsync, fadvise, ftruncate, openat, statx, unlink, rename, fchown, fchmod, realpath, lock (flock),
- * memory (each request for it), thread (each that is started), read (of standard input), or device: any of pwrite, pread, fdatasync.
- * KIND is
+ * CALL is pwrite, pread, fdatasync, fsync, fadvise, ftruncate, openat, statx, unlink, rename, fchown, fchmod, realpath,
+ * lock (flock), memory (each request for it), thread (each that is started), read (of standard input), or device: any of
+ * pwrite, pread, fdatasync. KIND is
  *
  *     eio, enospc   the call does nothing and fails so (of memory or a thread: it is refused)
  *     disk          while the call runs the file ALM_DISK exists, which makes the disk below fail (badfs.c)
@@ -56,30 +56,12 @@
 #include <sys/types.h>
 #include <unistd.h>
 
-enum call {
-    PWRITE,
-    PREAD,
-    FDATASYNC,
-    FSYNC,
-    FADVISE,
-    FTRUNCATE,
-    OPENAT,
-    STATX,
-    UNLINK,
-    RENAME,
-    FCHOWN,
-    FCHMOD,
-    REALPATH,
-    LOCK,
-    MEMORY,
-    THREAD,
-    READ,
-    DEVICE,
-    CALLS
-};
+#include "preload.h"
 
-static const char *const names[CALLS] = {"pwrite", "pread",  "fdatasync", "fsync",    "fadvise", "ftruncate", "openat", "statx", "unlink",
-                                         "rename", "fchown", "fchmod",    "realpath", "lock",    "memory",    "thread", "read",  "device"};
+static const char *const names[CALLS] = {
+    "pwrite", "pread",  "fdatasync", "fsync",  "fadvise",  "ftruncate", "openat", "statx",  "unlink",
+    "rename", "fchown", "fchmod",    "realpath", "lock", "memory",    "thread", "read",   "device",
+};
 
 struct pending {
     struct pending *next;
@@ -176,7 +158,7 @@ void _exit(int status) {
 }
 
 /* Writes a call to the list: with its place and length, or with its file's path if it has none. */
-static void list_as(const char *name, int file, const char *path, off_t at, size_t length) {
+void list_as(const char *name, int file, const char *path, off_t at, size_t length) {
     begin();
     if (calls < 0) return;
     char link[64], target[256] = "", line[400];
@@ -205,10 +187,10 @@ static void list_bytes(enum call call, off_t at, const unsigned char *bytes, ssi
     syscall(SYS_write, bytes_made, line, wrote);
 }
 
-static void list(enum call call, int file, const char *path, off_t at, size_t length) { list_as(names[call], file, path, at, length); }
+void list(enum call call, int file, const char *path, off_t at, size_t length) { list_as(names[call], file, path, at, length); }
 
 /* Whether this call, which is counted, is the one that shall fail. */
-static bool is_wanted(enum call call) {
+bool is_wanted(enum call call) {
     begin();
     unsigned long nth = __atomic_add_fetch(&made[call], 1, __ATOMIC_SEQ_CST);
     if (call == MEMORY && memory) __atomic_add_fetch(memory, 1, __ATOMIC_SEQ_CST);
@@ -293,12 +275,15 @@ static void tell_met(void) {
 static bool is_kind(const char *name) { return !strcmp(kind, name); }
 
 /* Whether the power shall fail in the call. */
-static bool cuts_power(void) {
-    return !is_kind("kill") && !is_kind("held") && !is_kind("eio") && !is_kind("enospc") && !is_kind("short") && !is_kind("disk");
+bool cuts_power(void) {
+    static const char *const others[] = {"kill", "held", "eio", "enospc", "short", "disk", "from"};
+    for (int i = 0; i < 7; i++)
+        if (is_kind(others[i])) return false;
+    return true;
 }
 
 /* Does what shall be done at this call, and says whether it fails. */
-static bool fails(void) {
+bool fails(void) {
     tell_met();
     if (is_kind("kill")) die();
     if (is_kind("held")) {
@@ -420,40 +405,6 @@ ssize_t pwrite(int file, const void *bytes, size_t length, off_t at) { return wr
 ssize_t pwrite64(int file, const void *bytes, size_t length, off_t at) { return write_at(file, bytes, length, at); }
 ssize_t pread(int file, void *into, size_t length, off_t at) { return read_at(file, into, length, at); }
 ssize_t pread64(int file, void *into, size_t length, off_t at) { return read_at(file, into, length, at); }
-int flock(int file, int how) {
-    list_as(how & LOCK_UN ? "unlock" : how & LOCK_SH ? "lock-shared" : "lock", file, NULL, 0, 0);
-    if (is_wanted(LOCK) && fails()) return -1;
-    return syscall(SYS_flock, file, how);
-}
-int unlink(const char *path) {
-    list(UNLINK, -1, path, 0, 0);
-    if (is_wanted(UNLINK) && fails()) return -1;
-    return syscall(SYS_unlink, path);
-}
-int rename(const char *from, const char *to) {
-    list(RENAME, -1, from, 0, 0);
-    list_as("onto", -1, to, 0, 0);
-    bool hit = is_wanted(RENAME);
-    if (hit && cuts_power()) syscall(SYS_rename, from, to);
-    if (hit && fails()) return -1;
-    return syscall(SYS_rename, from, to);
-}
-int fchown(int file, uid_t owner, gid_t group) {
-    list(FCHOWN, file, NULL, 0, 0);
-    if (is_wanted(FCHOWN) && fails()) return -1;
-    return syscall(SYS_fchown, file, owner, group);
-}
-int fchmod(int file, mode_t mode) {
-    list(FCHMOD, file, NULL, 0, 0);
-    if (is_wanted(FCHMOD) && fails()) return -1;
-    return syscall(SYS_fchmod, file, mode);
-}
-char *realpath(const char *path, char *into) {
-    static char *(*real)(const char *, char *);
-    if (is_wanted(REALPATH) && fails()) return NULL;
-    if (!real) real = dlsym(RTLD_NEXT, "realpath");
-    return real(path, into);
-}
 int setsockopt(int file, int level, int option, const void *value, socklen_t length) {
     int answer = syscall(SYS_setsockopt, file, level, option, value, length), error = errno;
     if (answer == 0 && level == IPPROTO_TCP && option == TCP_NODELAY && *(const int *)value) list_as("nodelay", file, NULL, 0, 0);
@@ -484,28 +435,6 @@ int open(const char *path, int flags, ...) { MODE_OF(flags, mode) return open_at
 int open64(const char *path, int flags, ...) { MODE_OF(flags, mode) return open_at(AT_FDCWD, path, flags, mode); }
 int openat(int folder, const char *path, int flags, ...) { MODE_OF(flags, mode) return open_at(folder, path, flags, mode); }
 int openat64(int folder, const char *path, int flags, ...) { MODE_OF(flags, mode) return open_at(folder, path, flags, mode); }
-
-/* Requests for memory. The C library's own names do the work. */
-extern void *__libc_malloc(size_t);
-extern void *__libc_calloc(size_t, size_t);
-extern void *__libc_realloc(void *, size_t);
-extern void *__libc_memalign(size_t, size_t);
-
-static bool is_refused(void) {
-    if (!is_wanted(MEMORY)) return false;
-    errno = ENOMEM;
-    return true;
-}
-
-void *malloc(size_t length) { return is_refused() ? NULL : __libc_malloc(length); }
-void *calloc(size_t count, size_t length) { return is_refused() ? NULL : __libc_calloc(count, length); }
-void *realloc(void *old, size_t length) { return is_refused() ? NULL : __libc_realloc(old, length); }
-void *aligned_alloc(size_t align, size_t length) { return is_refused() ? NULL : __libc_memalign(align, length); }
-int posix_memalign(void **into, size_t align, size_t length) {
-    if (is_refused()) return ENOMEM;
-    *into = __libc_memalign(align, length);
-    return *into ? 0 : ENOMEM;
-}
 
 int pthread_create(pthread_t *thread, const pthread_attr_t *attr, void *(*run)(void *), void *word) {
     static int (*real)(pthread_t *, const pthread_attr_t *, void *(*)(void *), void *);

@@ -16,7 +16,7 @@
 //! | `sync` | waits until the file's bytes are on the disk (`fdatasync`); fails if no path names the file any more, or its size has changed |
 //! | [`PlacedDisk::open`] | the same file, whose `sync` also fails if its own path names another file |
 //! | [`FileLock::release`] | lets other processes have the file |
-//! | [`Successor::make`] | makes a new file beside a device's, with its owner and its permissions |
+//! | [`Successor::make`] | makes a new file next to a device's, with its owner and its permissions |
 //! | [`Successor::take_place`] | gives it the name of the device's file (`rename`), and waits until that is on the disk |
 //!
 //! A process that has a device's file open holds a lock on it, so no other process of this program can have it open

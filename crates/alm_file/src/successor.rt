@@ -17,7 +17,7 @@ use std::path::{Path, PathBuf};
 /// What the name of a successor has after that of the device's file.
 const BESIDE: &str = ".upgrade";
 
-/// A new file that is to take the place of a device's file. It lies beside it until then, and has its owner and its permissions.
+/// A new file that is to take the place of a device's file. It lies next to that until then, and has its owner and its permissions.
 #[derive(Drop)]
 pub struct Successor {
     /// The path of the device's file, without a symbolic link in it.
@@ -28,7 +28,7 @@ pub struct Successor {
     found: Metadata,
 }
 
-/// The path beside a file's path.
+/// The path of the new file, next to that of the device's file.
 fn beside<R: AllocGlobal>(rt: &R, path: &str) -> io::Result<PathBuf> {
     let mut text = String::from_str(rt.alloc(), path)?;
     text.push_str(BESIDE)?;

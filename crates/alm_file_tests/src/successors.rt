@@ -23,7 +23,7 @@ fn is_there(rt: &HostRuntime, path: &str) -> bool {
     fs::symlink_metadata(rt, path).is_ok()
 }
 
-/// By a link to the device: the link stays, and the new file has the device's permissions. What lay beside it is gone.
+/// By a link to the device: the link stays, and the new file has the device's permissions. What had the new file's name is gone.
 #[test]
 fn a_successor_takes_the_place_of_the_file(rt: HostRuntime) -> Result<()> {
     drop(make(&rt, "old.device")?);

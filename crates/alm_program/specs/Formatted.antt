@@ -1,4 +1,3 @@
--- For the proofs.
 -- A device that was formatted, and what is printed of it.
 use Rattle.std.specs.Prelude.{◌≡◌, ℕ, List, ◌++◌, Ok, codes, decimal}
 use Rattle.alm_types.specs.Tables.{Listing}

@@ -8,6 +8,8 @@ use Rattle.alm_codec.specs.declared.version.Version.TheVariants.{V02, V03}
 use Rattle.alm_lines.specs.Line.{number}
 use Rattle.alm_program.specs.Commands.{commands}
 use Rattle.alm_program.specs.Jobs.{greatest_port, least_port, most_patience}
+use Rattle.alm_program.specs.declared.about.About.{About}
+use Rattle.alm_program.specs.declared.about.About.TheVariants as itself
 use Rattle.alm_program.specs.declared.job.Job.{Job}
 use Rattle.alm_program.specs.declared.job.Job.TheVariants as job
 use Rattle.alm_program.specs.declared.endpoints.Endpoints.{Endpoints}
@@ -26,6 +28,7 @@ endpoints_of (endpoints.Sockets folder) = sockets folder.now
 
 -- what words ask for, in texts and numbers
 pub data JobOrder : Type 0 where
+  tell : About → JobOrder
   desk : Option Text → JobOrder
   format : Text → Text → Version → JobOrder
   upgrade : Text → Version → JobOrder
@@ -35,6 +38,7 @@ pub data JobOrder : Type 0 where
 
 -- a job's own order
 abbrev pub order_of : Job → JobOrder
+order_of (job.Tell about) = tell about
 order_of (job.Desk device) = desk (option_map (λ d. d.now) device)
 order_of (job.Format device table version) = format device.now table.now version
 order_of (job.Upgrade device version) = upgrade device.now version
@@ -116,11 +120,31 @@ abbrev pub unless_faulty : Kinds → Option JobOrder → Option JobOrder
 unless_faulty [] order = order
 unless_faulty (kind ∷ kinds) order = None
 
--- what the words ask for, the program's name first
-unfoldable pub order_in : List Text → Option JobOrder
-order_in words =
+-- what the words of a command ask for, the program's name first
+unfoldable pub command_in : List Text → Option JobOrder
+command_in words =
     unless_faulty (fault_of commands words)
     (option_and_then (λ met. order_at met.0 met.1) (subcommand_of commands words))
+
+-- what is asked of the program itself: by one word alone, after its name
+abbrev pub about_by : Text → Option About
+about_by word =
+    if bytes_eq word (codes "--help") then Some itself.Usage
+    else (if bytes_eq word (codes "--version") then Some itself.Version else None)
+
+abbrev pub about_in : List Text → Option About
+about_in [] = None
+about_in (name ∷ []) = None
+about_in (name ∷ word ∷ []) = about_by word
+about_in (name ∷ word ∷ next ∷ more) = None
+
+abbrev pub unless_about : Option About → Option JobOrder → Option JobOrder
+unless_about (Some about) order = Some (tell about)
+unless_about None order = order
+
+-- what the words ask for, the program's name first
+abbrev pub order_in : List Text → Option JobOrder
+order_in words = unless_about (about_in words) (command_in words)
 
 -- the job of an order, or wrong usage if there is none; or memory ran out
 abbrev pub IsJobOf : Option JobOrder → Result Job WordsFault → Type 0

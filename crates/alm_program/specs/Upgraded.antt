@@ -29,7 +29,7 @@ abbrev pub upgraded_text : (is_new : Bool) → Version → (count : ℕ) → Lis
 upgraded_text is_new version count = done_text is_new ++ (version_text version ++ (codes " " ++ (decimal count ++ codes "\n")))
 
 -- a device of this size, whose file held the bytes `start`, was read and synced, and nothing else: it became `old`. If what it gave
--- was `start`, these bytes have that layout, and stand for that plant
+-- was `start`, these bytes have that layout, and encode that plant
 pub record IsReadFrom {D : Type 0} (d : Disk.Ghosts D) (start : List ℕ) (size : ℕ) (layout : Layout) (plant : Condensed) (old : D) : Type 0 where
   pub device : D
   pub begins : BeginsAs start (d.size device) (d.honest device) (d.state device)

@@ -22,6 +22,7 @@ use crate::showing::run_show;
 use crate::upgrading::run_upgrade;
 use crate::words::job_of;
 use alm_file::{Unknown, fill_streams};
+use alm_lines::put;
 use std::alloc::{AllocError, Global};
 use std::env::{self, Env};
 use std::fs::{File, Files};
@@ -82,6 +83,7 @@ fn run_job<'a, R: Input + Print + Files<File = File> + AllocGlobal>(
     ensures { IfOk result (IsOrderOf (order_of job.entry)) }
 {
     match job {
+        Job::Tell(about) => put(about.text().as_bytes(), &mut io::writer(rt)).map_err(io_fault)?,
         Job::Desk(None) => run_desk(rt)?,
         Job::Desk(Some(device)) => run_device_desk(rt, device, Unknown)?.done?,
         Job::Format {

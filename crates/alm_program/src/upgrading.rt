@@ -115,8 +115,8 @@ fn replace<D: Disk + Drop, S: Start, R: Files<File = File> + AllocGlobal>(
     }
 }
 
-/// Brings the file of a device to a version. If it is refused the old device has its name still, and no file is left beside it; only
-/// after a failed sync of its folder the name has either of the two.
+/// Brings the file of a device to a version. If it is refused the old device keeps its name, and the new file is removed. Only after a
+/// failed sync of the folder the name has either of the two.
 fn upgrade_file<S: Start, T: Start, R: Files<File = File> + AllocGlobal>(
     rt: &R,
     device: &str,
@@ -192,8 +192,8 @@ fn print_upgraded<D: Disk + Drop, E: Drop, W: io::Write>(
     )
 }
 
-/// Brings the file of a device to a version: a new file is made for its plant, and takes its name. A device of that version stays as it
-/// is. Prints which of the two, the version, and the count of actions; both devices are returned, with the records of their calls.
+/// Brings the file of a device to a version: a new file is made for its plant, and takes its name. A device of that version stays
+/// unchanged. Prints which of the two, the version, and the count of actions; both devices are returned, with the records of their calls.
 pub fn run_upgrade<S: Start, T: Start, R: Files<File = File> + Print + AllocGlobal>(
     rt: &R,
     device: &str,

@@ -5,9 +5,10 @@ ghost use Rattle.std.specs.String.{string_bytes};
 ghost use Rattle.clap.specs.Words.{App, first_of, found_of, rows_of, with_rule, with_subcommand};
 ghost use Rattle.alm_program.specs.Commands.{IsCommand, IsWord, desk, export, format, named, optional, serve, show, upgrade, commands, wanted};
 ghost use Rattle.alm_program.specs.Jobs.{IsJob, AreEndpoints, greatest_port, least_port};
-ghost use Rattle.alm_program.specs.Orders.{IsJobOf, conns_in, format_in, patience_in, order_at, order_in, endpoints_by, endpoints_of, port_in, serve_in, upgrade_in, version_in};
+ghost use Rattle.alm_program.specs.Orders.{IsJobOf, about_by, about_in, command_in, conns_in, format_in, patience_in, order_at, order_in, endpoints_by, endpoints_of, port_in, serve_in, upgrade_in, version_in};
 ghost use Rattle.alm_program.specs.declared.words_fault.WordsFault.TheVariants.{Usage};
 
+use crate::about::About;
 use crate::endpoints::Endpoints;
 use crate::job::Job;
 use crate::words_fault::WordsFault;
@@ -239,9 +240,41 @@ fn job_at<'a>(name: &str, matches: &ArgMatches<'a>) -> Result<Job<'a>, WordsFaul
     }
 }
 
+/// What is asked of the program itself by a word.
+fn about_by(word: &str) -> Option<About>
+    ensures { result ≡ about_by word.now }
+{
+    match word {
+        "--help" => Some(About::Usage),
+        "--version" => Some(About::Version),
+        _ => None,
+    }
+}
+
+/// What is asked of the program itself: by one word alone, after the program's name.
+fn about_of(words: &[String]) -> Option<About>
+    ensures { result ≡ about_in (map string_bytes words.now) }
+{
+    match words {
+        [_, word] => about_by(word.as_str()),
+        _ => None,
+    }
+}
+
 /// The job that the words ask for, the program's name first.
 pub fn job_of<'a>(alloc: Global, words: &'a [String]) -> Result<Job<'a>, WordsFault>
     ensures asked { IsJobOf (order_in (map string_bytes words.entry.now)) result }
+    ensures ports { IfOk result IsJob }
+{
+    match about_of(words) {
+        Some(about) => Ok(Job::Tell(about)),
+        None => command_of(alloc, words),
+    }
+}
+
+/// The job that the words of a command ask for, the program's name first.
+fn command_of<'a>(alloc: Global, words: &'a [String]) -> Result<Job<'a>, WordsFault>
+    ensures asked { IsJobOf (command_in (map string_bytes words.entry.now)) result }
     ensures ports { IfOk result IsJob }
 {
     let matches = commands(alloc)?.try_get_matches_from(words)?;

@@ -26,7 +26,11 @@ const TURNS: [Run; 4] = [
         b"",
         (DONE, b"upgraded 03 2\n", b""),
     ),
-    (b"alm_server\nshow\nturned.device\n", b"", (DONE, SHOWN, b"")),
+    (
+        b"alm_server\nshow\nturned.device\n",
+        b"",
+        (DONE, SHOWN, b""),
+    ),
     (
         b"alm_server\nupgrade\nturned.device\n--version\n03\n",
         b"",
@@ -55,7 +59,11 @@ const RETURNS: [Run; 2] = [
 
 /// Words that are wrong, and a file that is no device.
 const REFUSED: [Run; 4] = [
-    (b"alm_server\nupgrade\n", b"", (USAGE, b"", b"fault usage\n")),
+    (
+        b"alm_server\nupgrade\n",
+        b"",
+        (USAGE, b"", b"fault usage\n"),
+    ),
     (
         b"alm_server\nupgrade\nturned.device\n--version\n01\n",
         b"",
