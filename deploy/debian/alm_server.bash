@@ -3,7 +3,7 @@ _alm_server() {
     local cur=${COMP_WORDS[COMP_CWORD]} prev=${COMP_WORDS[COMP_CWORD - 1]}
     COMPREPLY=()
     if [ "$COMP_CWORD" -eq 1 ]; then
-        mapfile -t COMPREPLY < <(compgen -W "desk export format serve show" -- "$cur")
+        mapfile -t COMPREPLY < <(compgen -W "desk export format serve show upgrade --help --version" -- "$cur")
     elif [ "$prev" = --sockets ]; then
         mapfile -t COMPREPLY < <(compgen -d -- "$cur")
     elif [ "$prev" = --port ] || [ "$prev" = --conns ] || [ "$prev" = --patience ]; then
@@ -12,6 +12,8 @@ _alm_server() {
         mapfile -t COMPREPLY < <(compgen -W "--port --sockets --conns --patience" -- "$cur")
     elif [ "$prev" = --version ]; then
         mapfile -t COMPREPLY < <(compgen -W "02 03" -- "$cur")
+    elif [ "${COMP_WORDS[1]}" = upgrade ] && [ "$COMP_CWORD" -gt 2 ]; then
+        mapfile -t COMPREPLY < <(compgen -W "--version" -- "$cur")
     elif [ "${COMP_WORDS[1]}" = format ] && [ "$COMP_CWORD" -gt 3 ]; then
         mapfile -t COMPREPLY < <(compgen -W "--version" -- "$cur")
     elif [ "${COMP_WORDS[1]}" = format ] && [ "$COMP_CWORD" -eq 3 ]; then

@@ -16,13 +16,15 @@ FRAME = 35
 PIECE = 65_536
 
 
-NAMES = ("device", "folder", "link", "link's folder")
+NAMES = ("device", "folder", "link", "link's folder", "beside")
 
 
 def read_calls(path, device):
-    """The calls that were listed. The device, its folder, and a symbolic link to it with its folder have names."""
+    """The calls that were listed. The device, its folder, a symbolic link to it with its folder, and the new file of an
+    upgrade have names."""
     real, given = os.path.realpath(device), os.path.abspath(device)
     named = {given: "link", os.path.dirname(given): "link's folder", real: "device", os.path.dirname(real): "folder"}
+    named[f"{real}.upgrade"] = "beside"
     calls = []
     with open(path, encoding="utf-8") as file:
         for line in file:
@@ -136,15 +138,37 @@ def split_opening(made, wanted, *said):
     return rest
 
 
+def split_room(calls, layout, *said):
+    """The calls after those that take room on the disk, to the last byte that is used."""
+    room = list(itertools.takewhile(lambda call: call[0] in ("pread", "pwrite"), calls))
+    taken = 0
+    for _, at, length in sorted(call for call in room if call[0] == "pwrite"):
+        check(at <= taken, *said, "takes no room at", taken)
+        taken = max(taken, at + length)
+    check(taken >= layout.used, *said, "takes room for", taken, "bytes of", layout.used)
+    return calls[len(room) :]
+
+
 def check_made(made, layout):
     """`format` locks the file, gives it its size, and room to the last byte that is used; then its name is brought to
     the disk, and the device is written."""
     begins = [("openat", "device"), LOCK, ("ftruncate", 0, layout.size)]
     check_list(made[: len(begins)], begins, "format")
-    room = list(itertools.takewhile(lambda call: call[0] in ("pread", "pwrite"), made[len(begins) :]))
-    taken = 0
-    for _, at, length in sorted(call for call in room if call[0] == "pwrite"):
-        check(at <= taken, "format takes no room at", taken)
-        taken = max(taken, at + length)
-    check(taken >= layout.used, "format takes room for", taken, "bytes of", layout.used)
-    check_list(made[len(begins) + len(room) :], [*NAME_SYNC, *formatting(layout)], "format, after the room")
+    rest = split_room(made[len(begins) :], layout, "format")
+    check_list(rest, [*NAME_SYNC, *formatting(layout)], "format, after the room")
+
+
+def check_upgraded(made, layout):
+    """`upgrade` reads the header and opens the device, and doesn't write it. The new file has its owner before a byte.
+    All of it is on the disk before it takes the device's name, and then the folder is."""
+    opened = opening()
+    check_list(made[: len(opened)], [*opened[:-1], ("pread", 0, HEADER)], "upgrade")
+    rest = split_opening(made[len(opened) :], [SYNC], "upgrade")
+    begins = [("unlink", "beside"), ("openat", "beside"), ("fchown", "beside"), ("fchmod", "beside")]
+    begins += [("lock", "beside"), ("ftruncate", 0, layout.size)]
+    check_list(rest[: len(begins)], begins, "upgrade, the new file")
+    rest = split_room(rest[len(begins) :], layout, "upgrade")
+    names = [("fsync", "beside"), *NAME_SYNC[1:]]
+    writes = [("fdatasync", "beside") if call == SYNC else call for call in formatting(layout)]
+    ends = [NAME_SYNC[1], ("rename", "beside"), ("onto", "device"), NAME_SYNC[2]]
+    check_list(rest, [*names, *writes, *ends], "upgrade, after the room")

@@ -17,8 +17,9 @@
  *     ALM_BODY=stale                 stands for one that takes what the file ALM_STALE has for what it read
  *     ALM_BYTES=FILE                 the positional calls and syncs that were made, a line each: name, place and bytes in hexadecimal
  *
- * CALL is pwrite, pread, fdatasync, fsync, fadvise, ftruncate, openat, statx, memory (each request for it), thread (each that is
- * started), read (of standard input), or device: any of pwrite, pread, fdatasync. KIND is
+ * CALL is pwrite, pread, fdatasync, fsync, fadvise, ftruncate, openat, statx, unlink, rename, fchown, fchmod, realpath,
+ * lock (flock), memory (each request for it), thread (each that is started), read (of standard input), or device: any of
+ * pwrite, pread, fdatasync. KIND is
  *
  *     eio, enospc   the call does nothing and fails so (of memory or a thread: it is refused)
  *     disk          while the call runs the file ALM_DISK exists, which makes the disk below fail (badfs.c)
@@ -28,7 +29,8 @@
  *     kill          the process is killed before the call
  *     old new zeros a5 ff alternating mixed
  *                   the power fails in the call: what was written since the last sync, this call's bytes too, becomes what stood
- *                   there before, or what was written, or such bytes, or byte for byte by lot one of these. Then the process is killed
+ *                   there before, or what was written, or such bytes, or byte for byte by lot one of these. Then the process is killed.
+ *                   A rename is on the disk then
  *
  * A device is the file whose calls are positional; each file has its own list of pending writes.
  */
@@ -54,10 +56,12 @@
 #include <sys/types.h>
 #include <unistd.h>
 
-enum call { PWRITE, PREAD, FDATASYNC, FSYNC, FADVISE, FTRUNCATE, OPENAT, STATX, MEMORY, THREAD, READ, DEVICE, CALLS };
+#include "preload.h"
 
-static const char *const names[CALLS] = {"pwrite", "pread", "fdatasync", "fsync", "fadvise", "ftruncate",
-                                         "openat", "statx", "memory",    "thread", "read",   "device"};
+static const char *const names[CALLS] = {
+    "pwrite", "pread",  "fdatasync", "fsync",  "fadvise",  "ftruncate", "openat", "statx",  "unlink",
+    "rename", "fchown", "fchmod",    "realpath", "lock", "memory",    "thread", "read",   "device",
+};
 
 struct pending {
     struct pending *next;
@@ -154,7 +158,7 @@ void _exit(int status) {
 }
 
 /* Writes a call to the list: with its place and length, or with its file's path if it has none. */
-static void list_as(const char *name, int file, const char *path, off_t at, size_t length) {
+void list_as(const char *name, int file, const char *path, off_t at, size_t length) {
     begin();
     if (calls < 0) return;
     char link[64], target[256] = "", line[400];
@@ -183,10 +187,10 @@ static void list_bytes(enum call call, off_t at, const unsigned char *bytes, ssi
     syscall(SYS_write, bytes_made, line, wrote);
 }
 
-static void list(enum call call, int file, const char *path, off_t at, size_t length) { list_as(names[call], file, path, at, length); }
+void list(enum call call, int file, const char *path, off_t at, size_t length) { list_as(names[call], file, path, at, length); }
 
 /* Whether this call, which is counted, is the one that shall fail. */
-static bool is_wanted(enum call call) {
+bool is_wanted(enum call call) {
     begin();
     unsigned long nth = __atomic_add_fetch(&made[call], 1, __ATOMIC_SEQ_CST);
     if (call == MEMORY && memory) __atomic_add_fetch(memory, 1, __ATOMIC_SEQ_CST);
@@ -268,19 +272,29 @@ static void tell_met(void) {
     if (met) syscall(SYS_close, syscall(SYS_openat, AT_FDCWD, met, O_WRONLY | O_CREAT, 0644));
 }
 
+static bool is_kind(const char *name) { return !strcmp(kind, name); }
+
+/* Whether the power shall fail in the call. */
+bool cuts_power(void) {
+    static const char *const others[] = {"kill", "held", "eio", "enospc", "short", "disk", "from"};
+    for (int i = 0; i < 7; i++)
+        if (is_kind(others[i])) return false;
+    return true;
+}
+
 /* Does what shall be done at this call, and says whether it fails. */
-static bool fails(void) {
+bool fails(void) {
     tell_met();
-    if (!strcmp(kind, "kill")) die();
-    if (!strcmp(kind, "held")) {
+    if (is_kind("kill")) die();
+    if (is_kind("held")) {
         while (met && !syscall(SYS_access, met, F_OK)) usleep(10000);
         return false;
     }
-    if (!strcmp(kind, "eio") || !strcmp(kind, "enospc")) {
+    if (is_kind("eio") || is_kind("enospc")) {
         errno = kind[1] == 'i' ? EIO : ENOSPC;
         return true;
     }
-    if (strcmp(kind, "short") && strcmp(kind, "disk")) fail_power();
+    if (cuts_power()) fail_power();
     return false;
 }
 
@@ -391,10 +405,6 @@ ssize_t pwrite(int file, const void *bytes, size_t length, off_t at) { return wr
 ssize_t pwrite64(int file, const void *bytes, size_t length, off_t at) { return write_at(file, bytes, length, at); }
 ssize_t pread(int file, void *into, size_t length, off_t at) { return read_at(file, into, length, at); }
 ssize_t pread64(int file, void *into, size_t length, off_t at) { return read_at(file, into, length, at); }
-int flock(int file, int how) {
-    list_as(how & LOCK_UN ? "unlock" : how & LOCK_SH ? "lock-shared" : "lock", file, NULL, 0, 0);
-    return syscall(SYS_flock, file, how);
-}
 int setsockopt(int file, int level, int option, const void *value, socklen_t length) {
     int answer = syscall(SYS_setsockopt, file, level, option, value, length), error = errno;
     if (answer == 0 && level == IPPROTO_TCP && option == TCP_NODELAY && *(const int *)value) list_as("nodelay", file, NULL, 0, 0);
@@ -425,28 +435,6 @@ int open(const char *path, int flags, ...) { MODE_OF(flags, mode) return open_at
 int open64(const char *path, int flags, ...) { MODE_OF(flags, mode) return open_at(AT_FDCWD, path, flags, mode); }
 int openat(int folder, const char *path, int flags, ...) { MODE_OF(flags, mode) return open_at(folder, path, flags, mode); }
 int openat64(int folder, const char *path, int flags, ...) { MODE_OF(flags, mode) return open_at(folder, path, flags, mode); }
-
-/* Requests for memory. The C library's own names do the work. */
-extern void *__libc_malloc(size_t);
-extern void *__libc_calloc(size_t, size_t);
-extern void *__libc_realloc(void *, size_t);
-extern void *__libc_memalign(size_t, size_t);
-
-static bool is_refused(void) {
-    if (!is_wanted(MEMORY)) return false;
-    errno = ENOMEM;
-    return true;
-}
-
-void *malloc(size_t length) { return is_refused() ? NULL : __libc_malloc(length); }
-void *calloc(size_t count, size_t length) { return is_refused() ? NULL : __libc_calloc(count, length); }
-void *realloc(void *old, size_t length) { return is_refused() ? NULL : __libc_realloc(old, length); }
-void *aligned_alloc(size_t align, size_t length) { return is_refused() ? NULL : __libc_memalign(align, length); }
-int posix_memalign(void **into, size_t align, size_t length) {
-    if (is_refused()) return ENOMEM;
-    *into = __libc_memalign(align, length);
-    return *into ? 0 : ENOMEM;
-}
 
 int pthread_create(pthread_t *thread, const pthread_attr_t *attr, void *(*run)(void *), void *word) {
     static int (*real)(pthread_t *, const pthread_attr_t *, void *(*)(void *), void *);

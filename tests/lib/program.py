@@ -90,7 +90,8 @@ def begin(name, argv, full, short):
 def preload(folder):
     """The library that makes calls fail, compiled."""
     library = os.path.join(folder, "preload.so")
-    subprocess.run(["cc", "-O2", "-shared", "-fPIC", "-o", library, str(TESTS / "lib" / "preload.c")], check=True)
+    parts = [str(TESTS / "lib" / f"{name}.c") for name in ("preload", "preload_memory", "preload_names")]
+    subprocess.run(["cc", "-O2", "-shared", "-fPIC", "-o", library, *parts], check=True)
     return library
 
 

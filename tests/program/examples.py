@@ -3,9 +3,10 @@
 
 Each folder of examples/ with a `stdin` has a `stdout` beside it: what the desk prints for it, over a copy of
 `plant.device` where the folder has one. The desk answers the blocks of docs/PROTOCOL.md as they stand. Without words
-the program says `fault usage`. `refinery.toml` is what `make_refinery.py` prints. Each fault of a table file that
-docs/TABLE.md lists is told by its line, and but for `too-small` no file is made. `alarms_alone` of deploy/standby/
-resumes nothing that the other machine's switch doesn't allow: switch and DRBD are played by scripts.
+the program says `fault usage`, by `--version` what the file VERSION has, by `--help` the words of alm_server(8), as the
+completion does. `refinery.toml` is what `make_refinery.py` prints. Each fault of a table file that docs/TABLE.md lists
+is told by its line, and but for `too-small` no file is made. `alarms_alone` of deploy/standby/ resumes nothing that the
+other machine's switch doesn't allow: switch and DRBD are played by scripts.
 """
 import os
 import re
@@ -13,7 +14,7 @@ import shutil
 import subprocess
 import sys
 
-from lib.places import AT_TOOLS, DEPLOY, DOCS, EXAMPLES
+from lib.places import AT_TOOLS, DEPLOY, DOCS, EXAMPLES, TOP
 from lib.program import Wrong, begin, check, finish, run_words
 
 TABLE = DOCS / "TABLE.md"
@@ -102,6 +103,25 @@ def run_without_words(program):
     check((run.returncode, run.stdout, run.stderr) == (1, b"", b"fault usage\n"), "no words", run)
 
 
+def words_in(text):
+    """Commands, options and what stands for a value, in this order, of each line."""
+    return [re.findall(r"--[a-z]+|\b[a-z_]+\b|\b[A-Z]+\b", line) for line in text.splitlines() if line.strip()]
+
+
+def run_about(program):
+    """What the program says of itself."""
+    run = run_words(program, ["--version"])
+    check((run.returncode, run.stdout) == (0, b"alm_server " + read(TOP, "VERSION")), "--version", run)
+    manual = read(DEPLOY, "debian", "alm_server.8").decode().split(".SH SYNOPSIS")[1].split(".SH DESCRIPTION")[0]
+    manual = re.sub(r"(?m)^\.br$", "BREAK", manual.replace("\\-", "-"))
+    manual = re.sub(r"(?m)^\.[A-Z]+ ", "", manual).replace("\n", " ").replace("BREAK", "\n")
+    run = run_words(program, ["--help"])
+    said = words_in(run.stdout.decode().removeprefix("usage:"))
+    check(run.returncode == 0 and said == words_in(manual), "--help says", said, "alm_server(8)", words_in(manual))
+    completion = re.search(r'"desk ([^"]+)"', read(DEPLOY, "debian", "alm_server.bash").decode())[1]
+    check({"desk", *completion.split()} == {line[1] for line in said}, "the completion has", completion)
+
+
 def run_maker():
     run = subprocess.run(
         [sys.executable, os.path.join(EXAMPLES, "make_refinery.py")], capture_output=True, timeout=60, env=AT_TOOLS
@@ -187,6 +207,7 @@ def main():
             run_example(program, name, folder)
         blocks = run_exchanges(program)
         run_without_words(program)
+        run_about(program)
         run_maker()
         run_faults(program, folder)
         for case in ALONE:
@@ -198,7 +219,7 @@ def main():
         "examples",
         folder,
         (
-            f"{len(found)} examples, {blocks} blocks of a page, no words, the refinery, {len(FAULTS)} faults of tables,"
+            f"{len(found)} examples, {blocks} blocks of a page, its own words, the refinery, {len(FAULTS)} faults of tables,"
             f" and {len(ALONE)} words of a switch"
         ),
     )

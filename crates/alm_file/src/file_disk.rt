@@ -22,7 +22,7 @@ use std::marker::PhantomData;
 use std::os::unix::fs::OpenOptionsExt;
 
 /// The mode of a new device: only its owner reads and writes it.
-const MODE: u32 = 0o600;
+pub(crate) const MODE: u32 = 0o600;
 
 /// A regular file that held the bytes of `S` as it was opened, whether it is read-only, its size in bytes then, and how often a
 /// call of it failed. By its calls since it reads as many bytes, and each is a byte.
@@ -55,7 +55,7 @@ fn no_regular_file() -> io::Error {
 }
 
 /// Opens a regular file that isn't one of the standard streams'.
-fn open_apart<R: Files<File = File>>(
+pub(crate) fn open_apart<R: Files<File = File>>(
     rt: &R,
     options: &OpenOptions,
     path: &str,
@@ -152,6 +152,25 @@ impl<S: Start> FileDisk<S> {
                 .mode(MODE),
             path,
         )?;
+        FileDisk::of_size(rt, file, path, size, used)
+    }
+
+    /// A file that was just opened at a path, cut or lengthened with zeros to a size, with room on the disk for the bytes that are
+    /// used. It and its name are on the disk then.
+    pub(crate) fn of_size<R: Files<File = File> + AllocGlobal>(
+        rt: &R,
+        file: File,
+        path: &str,
+        size: u64,
+        used: u64,
+    ) -> Result<FileDisk<S>, FileFault>
+        requires { pos 2 <ℤ file_raw_fd file }
+        ensures begins { IfOk result
+            (λ d. BeginsAs S.Start.bytes (⟦<FileDisk<S> as Disk>⟧.size d)
+            (⟦<FileDisk<S> as Disk>⟧.honest d) (⟦<FileDisk<S> as Disk>⟧.state d)) }
+        ensures size { IfOk result (λ d. ⟦<FileDisk<S> as Disk>⟧.size d ≡ size) }
+        ensures count { IfOk result (λ d. ⟦<FileDisk<S> as Disk>⟧.failures d ≡ 0) }
+    {
         file.try_lock().map_err(io::Error::from)?;
         refuse_beyond_limit(size)?;
         file.set_len(size)?;

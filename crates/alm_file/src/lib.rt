@@ -16,6 +16,8 @@
 //! | `sync` | waits until the file's bytes are on the disk (`fdatasync`); fails if no path names the file any more, or its size has changed |
 //! | [`PlacedDisk::open`] | the same file, whose `sync` also fails if its own path names another file |
 //! | [`FileLock::release`] | lets other processes have the file |
+//! | [`Successor::make`] | makes a new file next to a device's, with its owner and its permissions |
+//! | [`Successor::take_place`] | gives it the name of the device's file (`rename`), and waits until that is on the disk |
 //!
 //! A process that has a device's file open holds a lock on it, so no other process of this program can have it open
 //! too. Processes that only read it share their lock.
@@ -61,6 +63,7 @@ mod record;
 mod recorded_file;
 mod start;
 mod streams;
+mod successor;
 
 pub use file_disk::FileDisk;
 pub use file_fault::FileFault;
@@ -68,3 +71,4 @@ pub use file_lock::FileLock;
 pub use placed_disk::PlacedDisk;
 pub use start::{Start, Unknown};
 pub use streams::fill_streams;
+pub use successor::Successor;

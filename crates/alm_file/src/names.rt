@@ -19,10 +19,28 @@ fn sync_folder<R: Files<File = File>>(
         Err(error) if !has_file && error.kind() == ErrorKind::PermissionDenied => return Ok(()),
         opened => opened?,
     };
-    match opened.sync_all() {
+    sync_opened(&opened)
+}
+
+/// Waits until a folder that was opened is on the disk.
+fn sync_opened(folder: &File) -> Result<(), FileFault> {
+    match folder.sync_all() {
         Err(error) if has_no_sync(&error) => Ok(()),
         answer => answer.map_err(FileFault::Sync),
     }
+}
+
+/// Gives a file the name of another one in its folder, and waits until that is on the disk. A power failure leaves one of the two
+/// files at that name. Only after a failed sync of the folder the file has the name already.
+pub fn rename_within<R: Files<File = File>>(
+    rt: &R,
+    folder: &str,
+    from: &str,
+    to: &str,
+) -> Result<(), FileFault> {
+    let opened = File::open(rt, folder)?;
+    rt.rename(from, to)?;
+    sync_opened(&opened)
 }
 
 /// The path after a symbolic link was followed: what it leads to, and the names that stand after it.

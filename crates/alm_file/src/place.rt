@@ -1,6 +1,6 @@
 //! The place of an open file: its path, and which file that named.
 
-use std::fs::{self, File, Files};
+use std::fs::{self, File, Files, Metadata};
 use std::io::{self, ErrorKind};
 use std::os::unix::fs::MetadataExt;
 
@@ -19,13 +19,13 @@ pub struct Place<'r, R: Files<File = File>> {
 }
 
 impl<'r, R: Files<File = File>> Place<'r, R> {
-    /// The place of a file that was opened by this path, by what identifies it.
-    pub fn new(rt: &'r R, path: &'r str, device: u64, inode: u64) -> Self {
+    /// The place of a file that was opened by this path, by what was found of it.
+    pub fn new(rt: &'r R, path: &'r str, found: &Metadata) -> Self {
         Place {
             rt,
             path,
-            device,
-            inode,
+            device: found.dev(),
+            inode: found.ino(),
         }
     }
 

@@ -28,10 +28,10 @@ impl<'r, R: Files<File = File> + AllocGlobal, S: Start> PlacedDisk<'r, R, S> {
         ensures count { IfOk result (λ d. ⟦<PlacedDisk<'r, R, S> as Disk>⟧.failures d ≡ 0) }
     {
         let disk = FileDisk::open(rt, path, start)?;
-        let (device, inode) = disk.file.identity()?;
+        let found = disk.file.metadata()?;
         Ok(PlacedDisk {
             disk,
-            place: Place::new(rt, path, device, inode),
+            place: Place::new(rt, path, &found),
         })
     }
 }

@@ -11,7 +11,7 @@ use crate::disk_cache::{forget, has_no_sync};
 use crate::file_lock::FileLock;
 use crate::place::replaced;
 use crate::record::Record;
-use std::fs::File;
+use std::fs::{File, Metadata};
 use std::io;
 use std::os::unix::fs::{FileExt, MetadataExt};
 
@@ -120,9 +120,8 @@ impl RecordedFile {
         Ok(FileLock { file })
     }
 
-    /// What identifies the file: its file system, and its number there.
-    pub fn identity(&self) -> io::Result<(u64, u64)> {
-        let found = self.file.metadata()?;
-        Ok((found.dev(), found.ino()))
+    /// What identifies the file, its file system and its number there; its owner, and who may read and write it.
+    pub fn metadata(&self) -> io::Result<Metadata> {
+        self.file.metadata()
     }
 }

@@ -3,7 +3,8 @@ use Rattle.std.proofs.Common.{◌≡◌, refl, sym, ap, Bor, ℕ, Option, Some, 
 use Rattle.std.specs.Str.{bytes_eq}
 use Rattle.clap.specs.Words.{Row, Text}
 use Rattle.alm_codec.specs.declared.version.Version.{Version}
-use Rattle.alm_program.specs.Orders.{At, conns_in, patience_in, desk, device_in, format, format_by, order_at, endpoints_by, serve, serve_by, version_in}
+use Rattle.alm_codec.specs.declared.version.Version.TheVariants.{V02, V03}
+use Rattle.alm_program.specs.Orders.{At, conns_in, patience_in, desk, device_in, format, format_by, order_at, endpoints_by, serve, serve_by, upgrade, upgrade_by, version_in}
 use Rattle.alm_program.specs.declared.words_fault.WordsFault.{WordsFault}
 use Rattle.alm_program.specs.declared.words_fault.WordsFault.TheVariants.{Usage}
 
@@ -49,8 +50,15 @@ pub placed : (p p' f f' : Option Text) (at : Option At) → p ≡ p' → f ≡ f
 placed p p' f f' at port folder e = rw (sym port, sym folder) e
 
 -- what a format is asked, if all its words are read, and if its version isn't
-pub formatted : (d t v : Option Text) (device table : Text) (version : Version) → d ≡ Some device → t ≡ Some table → version_in v ≡ Some version → format_by d t v ≡ Some (format device table version)
+pub formatted : (d t v : Option Text) (device table : Text) (version : Version) → d ≡ Some device → t ≡ Some table → version_in V02 v ≡ Some version → format_by d t v ≡ Some (format device table version)
 formatted d t v device table version d_is t_is v_is = rw (d_is, t_is, v_is) refl
 
-pub not_versioned : (d t v : Option Text) (device table : Text) → d ≡ Some device → t ≡ Some table → version_in v ≡ None → format_by d t v ≡ None
+pub not_versioned : (d t v : Option Text) (device table : Text) → d ≡ Some device → t ≡ Some table → version_in V02 v ≡ None → format_by d t v ≡ None
 not_versioned d t v device table d_is t_is v_is = rw (d_is, t_is, v_is) refl
+
+-- what an upgrade is asked, if all its words are read, and if its version isn't
+pub upgraded : (d v : Option Text) (device : Text) (version : Version) → d ≡ Some device → version_in V03 v ≡ Some version → upgrade_by d v ≡ Some (upgrade device version)
+upgraded d v device version d_is v_is = rw (d_is, v_is) refl
+
+pub not_upgraded : (d v : Option Text) (device : Text) → d ≡ Some device → version_in V03 v ≡ None → upgrade_by d v ≡ None
+not_upgraded d v device d_is v_is = rw (d_is, v_is) refl

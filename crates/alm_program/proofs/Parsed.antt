@@ -9,7 +9,7 @@ use Rattle.clap.specs.declared.parser.matches.SubCommand.{SubCommand}
 use Rattle.clap.specs.declared.parser.matches.ArgMatches.TheViews.{out-SubCommand}
 use Rattle.alm_program.specs.Commands.{commands}
 use Rattle.alm_program.specs.WordsFaults.{fault_of_kind}
-use Rattle.alm_program.specs.Orders.{IsJobOf, JobOrder, order_at, order_in, unless_faulty}
+use Rattle.alm_program.specs.Orders.{IsJobOf, JobOrder, command_in, order_at, unless_faulty}
 use Rattle.alm_program.specs.declared.job.Job.{Job}
 use Rattle.alm_program.specs.declared.words_fault.WordsFault.{WordsFault}
 use Rattle.alm_program.specs.declared.words_fault.WordsFault.TheVariants.{Usage, OutOfMemory}
@@ -27,8 +27,8 @@ among : (k : ErrorKind) (kinds : Kinds) (order : Option JobOrder) → IsAmong k 
 among k [] order is_among = absurd is_among
 among k (x ∷ xs) order is_among = refl
 
-faulty : (words : List Text) (k : ErrorKind) → IsAmong k (fault_of commands words) → order_in words ≡ None
-unfolding order_in
+faulty : (words : List Text) (k : ErrorKind) → IsAmong k (fault_of commands words) → command_in words ≡ None
+unfolding command_in
 faulty words k is_among = among k _ _ is_among
 
 -- an answer that is no job, if nothing is asked for
@@ -47,18 +47,18 @@ error (Ok job) kind told memory = told
 error (Err fault) kind told memory = told ∙ ap fault_of_kind memory
 
 pub refused : (words : List Text) (e : Error) (r : Result Job WordsFault) → IsErr r → IsErrAnd r (λ fault. fault ≡ fault_of_kind (kind_of e))
-    → HasKind (fault_of commands words) e → IsJobOf (order_in words) r
+    → HasKind (fault_of commands words) e → IsJobOf (command_in words) r
 refused words e r is_err told (inl memory) = out_of_memory _ r (error r _ told memory)
 refused words e r is_err told (inr is_among) = no_job _ r (faulty words _ is_among) is_err
 
 -- words without a fault ask for what the command that they name is asked
 pub asked : (words : List Text) (name : Text) (rows : List Row) → fault_of commands words ≡ [] → subcommand_of commands words ≡ Some (name, rows)
-    → order_in words ≡ order_at name rows
-unfolding order_in
+    → command_in words ≡ order_at name rows
+unfolding command_in
 asked words name rows none met = rw (none, met) refl
 
-pub asked_nothing : (words : List Text) → fault_of commands words ≡ [] → subcommand_of commands words ≡ None → order_in words ≡ None
-unfolding order_in
+pub asked_nothing : (words : List Text) → fault_of commands words ≡ [] → subcommand_of commands words ≡ None → command_in words ≡ None
+unfolding command_in
 asked_nothing words none met = rw (none, met) refl
 
 module _ {Z : Type 0} where

@@ -27,6 +27,10 @@ format =
     with_rule (with_rule (with_rule (new_app (codes "format")) (wanted (codes "device")))
     (wanted (codes "table"))) (named (optional (codes "version")))
 
+-- upgrade DEVICE [--version 02 or 03]
+abbrev pub upgrade : App
+upgrade = with_rule (with_rule (new_app (codes "upgrade")) (wanted (codes "device"))) (named (optional (codes "version")))
+
 -- show DEVICE
 abbrev pub show : App
 show = with_rule (new_app (codes "show")) (wanted (codes "device"))
@@ -50,8 +54,8 @@ program =
 
 unfoldable pub commands : App
 commands =
-    with_subcommand (with_subcommand (with_subcommand (with_subcommand (with_subcommand program desk.top)
-    format.top) show.top) export.top) serve.top
+    with_subcommand (with_subcommand (with_subcommand (with_subcommand (with_subcommand (with_subcommand program desk.top)
+    format.top) upgrade.top) show.top) export.top) serve.top
 
 -- a word and a command of `clap` that are read so, at their own command alone
 abbrev pub IsWord : Rule → Arg → Type 0

@@ -14,6 +14,8 @@ use Rattle.alm_program.specs.declared.words_fault.WordsFault.{WordsFault}
 use Rattle.alm_program.specs.declared.words_fault.WordsFault.TheVariants as words
 use Rattle.alm_export.specs.declared.show_fault.ShowFault.{ShowFault}
 use Rattle.alm_export.specs.declared.show_fault.ShowFault.TheVariants as show
+use Rattle.alm_checkpoint.specs.declared.device_fault.DeviceFault.{DeviceFault}
+use Rattle.alm_checkpoint.specs.declared.device_fault.DeviceFault.TheVariants as found
 use Rattle.alm_store.specs.declared.open_fault.OpenFault.{OpenFault}
 use Rattle.alm_store.specs.declared.open_fault.OpenFault.TheVariants as opening
 use Rattle.alm_keeper.specs.declared.format_fault.FormatFault.{FormatFault}
@@ -65,6 +67,11 @@ fault_of_words words.OutOfMemory = OutOfMemory
 abbrev pub fault_of_show : ShowFault → Fault
 fault_of_show show.Write = Io
 fault_of_show show.OutOfMemory = OutOfMemory
+
+-- .. of a header
+abbrev pub fault_of_device : DeviceFault → Fault
+fault_of_device found.Unformatted = Unformatted
+fault_of_device (found.Damaged half at) = Damaged half at
 
 -- .. of a device that isn't opened
 abbrev pub fault_of_open : OpenFault → Fault

@@ -3,7 +3,7 @@ use Rattle.std.specs.Prelude.{◌≤◌, ℕ, ⊤}
 use Rattle.alm_program.specs.declared.job.Job.{Job}
 use Rattle.alm_program.specs.declared.endpoints.Endpoints.{Endpoints}
 use Rattle.alm_program.specs.declared.endpoints.Endpoints.TheVariants.{Ports, Sockets}
-use Rattle.alm_program.specs.declared.job.Job.TheVariants.{Desk, Format, Show, Export, Serve}
+use Rattle.alm_program.specs.declared.job.Job.TheVariants.{Tell, Desk, Format, Upgrade, Show, Export, Serve}
 
 -- the least and the greatest port of the first slot
 abbrev pub least_port : ℕ
@@ -23,8 +23,10 @@ AreEndpoints (Sockets folder) = ⊤
 
 -- .. if there are ports
 abbrev pub IsJob : Job → Type 0
+IsJob (Tell about) = ⊤
 IsJob (Desk device) = ⊤
 IsJob (Format device table version) = ⊤
+IsJob (Upgrade device version) = ⊤
 IsJob (Show device) = ⊤
 IsJob (Export device) = ⊤
 IsJob (Serve device endpoints conns patience) = AreEndpoints endpoints

@@ -4,6 +4,7 @@ pub mod Commands
 pub mod Orders
 pub mod Faults
 pub mod Formatted
+pub mod Upgraded
 pub mod ServeOrders
 pub mod OwnedEndpoints
 pub mod Ends

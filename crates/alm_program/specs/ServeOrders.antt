@@ -1,6 +1,6 @@
 -- What the program is asked of a server.
 use Rattle.std.specs.Prelude.{◌≡◌, ℕ, List, Option, Some, None, IsNone, string_bytes}
-use Rattle.alm_program.specs.Orders.{JobOrder, desk, export, format, order_in, serve, show}
+use Rattle.alm_program.specs.Orders.{JobOrder, desk, export, format, order_in, serve, show, tell, upgrade}
 use Rattle.alm_program.specs.OwnedEndpoints.{at_of}
 use Rattle.alm_program.specs.declared.serve_order.ServeOrder.{ServeOrder}
 
@@ -9,8 +9,10 @@ abbrev pub IsOrderOf : JobOrder → Option ServeOrder → Type 0
 IsOrderOf (serve device at conns patience) (Some asked) =
     (string_bytes asked.device ≡ device) × (at_of asked.endpoints ≡ at) × (asked.conns ≡ conns) × (asked.patience ≡ patience)
 IsOrderOf (serve device at conns patience) None = ⊥
+IsOrderOf (tell about) asked = IsNone asked
 IsOrderOf (desk device) asked = IsNone asked
 IsOrderOf (format device table version) asked = IsNone asked
+IsOrderOf (upgrade device version) asked = IsNone asked
 IsOrderOf (show device) asked = IsNone asked
 IsOrderOf (export device) asked = IsNone asked
 

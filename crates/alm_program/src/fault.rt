@@ -1,6 +1,7 @@
 //! Faults of the program.
 
 use crate::words_fault::WordsFault;
+use alm_checkpoint::DeviceFault;
 use alm_desk::RunFault;
 use alm_export::ShowFault;
 use alm_keeper::{FormatFault, OpenFault};
@@ -134,6 +135,20 @@ impl From<OpenFault> for Fault {
             OpenFault::Damaged { half, at } => Fault::Damaged { half, at },
             OpenFault::Disk => Fault::Disk,
             OpenFault::OutOfMemory => Fault::OutOfMemory,
+        }
+    }
+}
+
+impl From<DeviceFault> for Fault {
+    ghost use Rattle.std.specs.Prelude.{◌≡◌};
+    ghost use Rattle.alm_program.specs.Faults.{fault_of_device};
+
+    ghost from_gives = { λ found fault. fault ≡ fault_of_device found };
+
+    fn from(fault: DeviceFault) -> Self {
+        match fault {
+            DeviceFault::Unformatted => Fault::Unformatted,
+            DeviceFault::Damaged { half, at } => Fault::Damaged { half, at },
         }
     }
 }

@@ -2,6 +2,7 @@
 
 ghost use Rattle.std.specs.Prelude.{◌≡◌, ℕ, List, length, false, IfOk, IfErr};
 ghost use Rattle.alm_lines.specs.Written.{Prints};
+ghost use Rattle.alm_model.specs.New.{new_plant};
 ghost use Rattle.alm_checkpoint.specs.Headers.{segment_fits};
 ghost use Rattle.alm_keeper.specs.Formatting.{IsLongest};
 ghost use Rattle.alm_program.specs.Formatted.{IsFormattedFor, IsMadeFor, formatted_text};
@@ -61,7 +62,8 @@ fn format_file<S: Start, R: Files<File = File> + AllocGlobal>(
         IsLongest size (length table.now.alarms) table.now.areas layout ×
         (layout.segment ≡ done.segment)) }
     ensures formatted { IfOk result
-        (λ done. IsMadeFor ⟦<FileDisk<S> as Disk>⟧ S.Start.bytes size version table.now done.device) }
+        (λ done. IsMadeFor ⟦<FileDisk<S> as Disk>⟧ S.Start.bytes size version
+        (new_plant table.now) done.device) }
 {
     let fitting = layout_for(size, table, version);
     let used = match &fitting {

@@ -1,17 +1,25 @@
 //! Jobs.
 
+use crate::about::About;
 use crate::endpoints::Endpoints;
 use alm_codec::Version;
 
 /// What the program is asked to do.
 #[derive(Clone, Copy, Debug, PartialEq, Eq)]
 pub enum Job<'a> {
+    /// Prints what is asked of the program itself.
+    Tell(About),
     /// Answers standard input, over a device or the worked table in memory.
     Desk(Option<&'a str>),
     /// Makes a device of a table file, in a version.
     Format {
         device: &'a str,
         table: &'a str,
+        version: Version,
+    },
+    /// Brings a device to a version, with its plant.
+    Upgrade {
+        device: &'a str,
         version: Version,
     },
     /// Prints the plant of a device.

@@ -11,15 +11,17 @@
 //! | `desk` | the worked table in memory, over standard input and output |
 //! | `desk DEVICE` | the same, but over a device that is formatted |
 //! | `format DEVICE TABLE [--version 02 or 03]` | makes the file of a device, and formats it for a table file; in version 02, if none is named |
+//! | `upgrade DEVICE [--version 02 or 03]` | brings a device to a version, in a new file that takes its name; to version 03, if none is named |
 //! | `show DEVICE` | prints the plant on a device |
 //! | `export DEVICE` | prints the table of that plant as a table file, with the size, priorities and setpoints in force |
 //! | `serve DEVICE --port P ..` | a [`ServeOrder`]: the slots of a formatted device at 18 ports |
 //! | `serve DEVICE --sockets FOLDER ..` | the same at 18 Unix sockets in a folder |
 //! | `.. --conns N` | for N connections in all |
 //! | `.. --patience SECONDS` | how long a device call may take while clients are served |
+//! | `--help`, `--version` | prints its words, its version |
 //!
 //! Options may come in any order. P (1024 to 65518), N (below 2^32) and SECONDS (1 to 86400) are decimal digits without a leading
-//! zero. Without `--conns` N is 0, without `--patience` there is no limit. Every other word, and a request for help, is wrong usage.
+//! zero. Without `--conns` N is 0, without `--patience` there is no limit. Every other word is wrong usage.
 //!
 //! | fault | status | its line on standard error |
 //! |---|---|---|
@@ -37,7 +39,8 @@
 //! Within: over any reader, writer and device, a desk, the print of a plant or of its table and a refused opening end by the fault
 //! of their cause.
 //!
-//! Not covered: what a file or a standard stream gives and takes.
+//! Not covered: what a file or a standard stream gives and takes, and which file has which name. That the new device of an upgrade
+//! takes the old one's name is tested.
 //!
 //! Proved:
 //! - which words give which job, by what `clap` finds in them by its own contract; out of memory is no wrong usage (by
@@ -46,6 +49,8 @@
 //!   or 2^32 reads gave no end (by `run_local`, `end_of`)
 //! - a desk over a device's file goes on from the plant that the opening read. Each image of the device at its end holds a plant
 //!   that the requests left (by `run_device_desk`)
+//! - of a device that is upgraded nothing is written. The new one has its size, and is formatted in that version for the plant that
+//!   its bytes encode (by `run_upgrade`)
 //! - what is printed of a plant and of its table, or a prefix; `io` is reported exactly if the writer counted a failure (by
 //!   `print_plant`, `print_table`)
 //! - only a job to serve is answered by an order, with its device, place, connections and patience. Which words the
@@ -54,6 +59,7 @@
 //!   does (by `open_to_print`, `open_stack`, `layout_for`)
 #![tactic(auto)]
 
+mod about;
 mod desk;
 mod desk_end;
 mod desk_id;
@@ -69,6 +75,8 @@ mod owned_endpoints;
 mod program;
 mod serve_order;
 mod showing;
+mod upgraded;
+mod upgrading;
 mod words;
 mod words_fault;
 

@@ -19,8 +19,10 @@ use crate::job::Job;
 use crate::owned_endpoints::OwnedEndpoints;
 use crate::serve_order::ServeOrder;
 use crate::showing::run_show;
+use crate::upgrading::run_upgrade;
 use crate::words::job_of;
 use alm_file::{Unknown, fill_streams};
+use alm_lines::put;
 use std::alloc::{AllocError, Global};
 use std::env::{self, Env};
 use std::fs::{File, Files};
@@ -81,6 +83,7 @@ fn run_job<'a, R: Input + Print + Files<File = File> + AllocGlobal>(
     ensures { IfOk result (IsOrderOf (order_of job.entry)) }
 {
     match job {
+        Job::Tell(about) => put(about.text().as_bytes(), &mut io::writer(rt)).map_err(io_fault)?,
         Job::Desk(None) => run_desk(rt)?,
         Job::Desk(Some(device)) => run_device_desk(rt, device, Unknown)?.done?,
         Job::Format {
@@ -88,6 +91,9 @@ fn run_job<'a, R: Input + Print + Files<File = File> + AllocGlobal>(
             table,
             version,
         } => drop(run_format(rt, device, table, version, Unknown)?),
+        Job::Upgrade { device, version } => {
+            drop(run_upgrade(rt, device, version, Unknown, Unknown)?)
+        }
         Job::Show(device) => run_show(rt, device, Unknown)?,
         Job::Export(device) => run_export(rt, device, Unknown)?,
         Job::Serve {

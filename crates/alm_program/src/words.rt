@@ -3,11 +3,12 @@
 ghost use Rattle.std.specs.Prelude.{◌≡◌, ◌≤◌, ◌<◌, Ok, Err, IfOk, MatchResult, map, option_map, ok_or};
 ghost use Rattle.std.specs.String.{string_bytes};
 ghost use Rattle.clap.specs.Words.{App, first_of, found_of, rows_of, with_rule, with_subcommand};
-ghost use Rattle.alm_program.specs.Commands.{IsCommand, IsWord, desk, export, format, named, optional, serve, show, commands, wanted};
+ghost use Rattle.alm_program.specs.Commands.{IsCommand, IsWord, desk, export, format, named, optional, serve, show, upgrade, commands, wanted};
 ghost use Rattle.alm_program.specs.Jobs.{IsJob, AreEndpoints, greatest_port, least_port};
-ghost use Rattle.alm_program.specs.Orders.{IsJobOf, conns_in, format_in, patience_in, order_at, order_in, endpoints_by, endpoints_of, port_in, serve_in, version_in};
+ghost use Rattle.alm_program.specs.Orders.{IsJobOf, about_by, about_in, command_in, conns_in, format_in, patience_in, order_at, order_in, endpoints_by, endpoints_of, port_in, serve_in, upgrade_in, version_in};
 ghost use Rattle.alm_program.specs.declared.words_fault.WordsFault.TheVariants.{Usage};
 
+use crate::about::About;
 use crate::endpoints::Endpoints;
 use crate::job::Job;
 use crate::words_fault::WordsFault;
@@ -37,6 +38,14 @@ fn format_command<'a>(alloc: Global) -> Result<Command<'a>, AllocError>
     let above = Command::new(alloc, "format")
         .arg(wanted(alloc, "device"))?
         .arg(wanted(alloc, "table"))?;
+    with_option(alloc, above, "version")
+}
+
+/// What an upgrade is asked.
+fn upgrade_command<'a>(alloc: Global) -> Result<Command<'a>, AllocError>
+    ensures { IfOk result (IsCommand upgrade) }
+{
+    let above = Command::new(alloc, "upgrade").arg(wanted(alloc, "device"))?;
     with_option(alloc, above, "version")
 }
 
@@ -98,6 +107,7 @@ fn commands<'a>(alloc: Global) -> Result<Command<'a>, AllocError>
     let above = Command::new(alloc, "alm_server").subcommand_required(true);
     let above = with(above, desk_command(alloc))?;
     let above = with(above, format_command(alloc))?;
+    let above = with(above, upgrade_command(alloc))?;
     let above = with(above, show_command(alloc))?;
     let above = with(above, export_command(alloc))?;
     with(above, serve_command(alloc))
@@ -112,12 +122,13 @@ fn word<'a>(matches: &ArgMatches<'a>, name: &str) -> Result<&'a str, WordsFault>
     matches.get_str(name).ok_or(WordsFault::Usage)
 }
 
-/// The version of a new device.
-fn version_of(name: Option<&str>) -> Result<Version, WordsFault>
-    ensures { result ≡ ok_or (version_in (option_map (λ text. text.now) name.entry)) Usage }
+/// The version of a new device: the one that is named, or else `usual`.
+fn version_of(name: Option<&str>, usual: Version) -> Result<Version, WordsFault>
+    ensures { result ≡ ok_or (version_in usual (option_map (λ text. text.now) name.entry)) Usage }
 {
     match name {
-        None | Some("02") => Ok(Version::V02),
+        None => Ok(usual),
+        Some("02") => Ok(Version::V02),
         Some("03") => Ok(Version::V03),
         Some(_) => Err(WordsFault::Usage),
     }
@@ -131,7 +142,18 @@ fn format_of<'a>(matches: &ArgMatches<'a>) -> Result<Job<'a>, WordsFault>
     Ok(Job::Format {
         device: word(matches, "device")?,
         table: word(matches, "table")?,
-        version: version_of(matches.get_str("version"))?,
+        version: version_of(matches.get_str("version"), Version::V02)?,
+    })
+}
+
+/// What an upgrade is asked.
+fn upgrade_of<'a>(matches: &ArgMatches<'a>) -> Result<Job<'a>, WordsFault>
+    ensures asked { IsJobOf (upgrade_in (rows_of (found_of matches.now))) result }
+    ensures ports { IfOk result IsJob }
+{
+    Ok(Job::Upgrade {
+        device: word(matches, "device")?,
+        version: version_of(matches.get_str("version"), Version::V03)?,
     })
 }
 
@@ -210,6 +232,7 @@ fn job_at<'a>(name: &str, matches: &ArgMatches<'a>) -> Result<Job<'a>, WordsFaul
     match name {
         "desk" => Ok(Job::Desk(matches.get_str("device"))),
         "format" => format_of(matches),
+        "upgrade" => upgrade_of(matches),
         "show" => Ok(Job::Show(word(matches, "device")?)),
         "export" => Ok(Job::Export(word(matches, "device")?)),
         "serve" => serve_of(matches),
@@ -217,9 +240,41 @@ fn job_at<'a>(name: &str, matches: &ArgMatches<'a>) -> Result<Job<'a>, WordsFaul
     }
 }
 
+/// What is asked of the program itself by a word.
+fn about_by(word: &str) -> Option<About>
+    ensures { result ≡ about_by word.now }
+{
+    match word {
+        "--help" => Some(About::Usage),
+        "--version" => Some(About::Version),
+        _ => None,
+    }
+}
+
+/// What is asked of the program itself: by one word alone, after the program's name.
+fn about_of(words: &[String]) -> Option<About>
+    ensures { result ≡ about_in (map string_bytes words.now) }
+{
+    match words {
+        [_, word] => about_by(word.as_str()),
+        _ => None,
+    }
+}
+
 /// The job that the words ask for, the program's name first.
 pub fn job_of<'a>(alloc: Global, words: &'a [String]) -> Result<Job<'a>, WordsFault>
     ensures asked { IsJobOf (order_in (map string_bytes words.entry.now)) result }
+    ensures ports { IfOk result IsJob }
+{
+    match about_of(words) {
+        Some(about) => Ok(Job::Tell(about)),
+        None => command_of(alloc, words),
+    }
+}
+
+/// The job that the words of a command ask for, the program's name first.
+fn command_of<'a>(alloc: Global, words: &'a [String]) -> Result<Job<'a>, WordsFault>
+    ensures asked { IsJobOf (command_in (map string_bytes words.entry.now)) result }
     ensures ports { IfOk result IsJob }
 {
     let matches = commands(alloc)?.try_get_matches_from(words)?;

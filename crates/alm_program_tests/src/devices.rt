@@ -6,9 +6,9 @@ use std::os::unix::fs::MetadataExt;
 use std::test::Fail;
 
 /// The worked table, in two parts.
-const SIZES: &str = "size = 28997\nareas = 2\n";
+pub const SIZES: &str = "size = 28997\nareas = 2\n";
 
-const ALARMS: &str = "[[alarm]]
+pub const ALARMS: &str = "[[alarm]]
 kind = \"high\"
 setpoint = 800
 deadband = 10
@@ -43,7 +43,7 @@ tag = \"LI-202\"
 ";
 
 /// What is shown after CLOCK 1000 and VAL 0 800.
-const SHOWN: &[u8] = b"NOW 1000 COUNT 2 EPOCH 1
+pub const SHOWN: &[u8] = b"NOW 1000 COUNT 2 EPOCH 1
 ALARM 0 TI-101 UNACK 1 - -
 ALARM 1 PI-102 NORM 0 - -
 ALARM 2 XS-201 NORM 0 - -
@@ -57,7 +57,7 @@ A 1 0 FLOOD 0 0
 ";
 
 /// Writes a file of these parts.
-fn write_file(rt: &HostRuntime, path: &str, parts: &[&str]) -> Result<(), Fail> {
+pub fn write_file(rt: &HostRuntime, path: &str, parts: &[&str]) -> Result<(), Fail> {
     let mut text = String::new(rt.alloc());
     for part in parts {
         text.push_str(part)?;

@@ -28,3 +28,5 @@ mod stopping;
 mod stories;
 #[cfg(test)]
 mod told;
+#[cfg(test)]
+mod upgrading;

@@ -7,7 +7,7 @@ use crate::script::Step;
 const DESK: &[u8] = b"alm_server\ndesk\n";
 
 /// Words that the program doesn't have.
-const WORDS: [&[u8]; 11] = [
+const WORDS: [&[u8]; 13] = [
     b"",
     b"alm_server\n",
     b"alm_server\n\n",
@@ -18,7 +18,9 @@ const WORDS: [&[u8]; 11] = [
     b"alm_server\ndes\xff\n",
     b"alm_server\nexport\n",
     b"alm_server\nshow\none.device\nmore\n",
-    b"alm_server\n--help\n",
+    b"alm_server\nhelp\n",
+    b"alm_server\n--help\ndesk\n",
+    b"alm_server\ndesk\n--version\n",
 ];
 
 #[test]
@@ -27,6 +29,14 @@ fn words_that_are_none_of_the_programs(rt: HostRuntime) {
         let same = ends(&rt, words, b"0 1 STATE 0\n", (USAGE, b"", b"fault usage\n"));
         assert!(rt; same, "row {row}");
     }
+}
+
+/// What is printed of its version.
+const VERSION: Ending<'static> = (DONE, b"alm_server 0.4.0\n", b"");
+
+#[test]
+fn it_prints_its_version(rt: HostRuntime) {
+    assert!(rt; ends(&rt, b"alm_server\n--version\n", b"", VERSION));
 }
 
 #[test]

@@ -2,7 +2,7 @@ use Rattle.std.proofs.Common.{◌∙◌, ap, map, subst, sym}
 use Rattle.std.specs.String.{string_bytes}
 use Rattle.clap.specs.Words.{App, HasKind, fault_of, is_simple, is_simple_and_free, subcommand_of}
 use Rattle.alm_program.proofs.Parsed.{asked, asked_nothing, commands-free, commands-simple, met, met_none, refused}
-use Rattle.alm_program.proofs.words.job_of.Goals as goal
+use Rattle.alm_program.proofs.words.command_of.Goals as goal
 
 pub returns-in_err-matches-clause-asked : goal.returns-in_err-matches-clause-asked
 returns-in_err-matches-clause-asked c =
