@@ -69,6 +69,11 @@ def changed(text: bytes, change: Change) -> bytes:
     return bytes(new)
 
 
+def said_of(change: Change) -> str:
+    """A change in words: where, how long, and how it begins."""
+    return "changed at " + " and ".join(f"{at} to {len(some)} bytes {some[:8].hex(' ')}" for at, some in change)
+
+
 def join_frames(device: SummedDevice, half: int) -> None:
     """Spells the last frames of a half as one."""
     frames = device.frames(True, half)[-JOINED:]
@@ -99,16 +104,16 @@ class Openings:
         with open(path, "wb") as file:
             file.write(changed(self.text, change))
         run = run_words(self.program, ["show", path])
-        return ends(run, Fault("", "show", 0, str(change)), "show") or run.stdout
+        return ends(run, Fault("", "show", 0, said_of(change)), "show") or run.stdout
 
     def one(self, change: Change) -> str:
         """Whether the change is told, at FORMAT's place; or nothing is changed; or it is silent, by FORMAT too."""
         said, due = self.shown(change), found(changed(self.text, change))
         if due.fault:
-            check(said == due.fault.encode(), "changed to", change, "it is", due.fault, "by FORMAT, and", said)
+            check(said == due.fault.encode(), said_of(change), "is", due.fault, "by FORMAT, and", said)
             return "told"
         is_same = said == self.before
-        check(is_same == (due == self.due) and said.startswith(b"NOW "), "changed to", change, "it shows", said)
+        check(is_same == (due == self.due) and said.startswith(b"NOW "), said_of(change), "shows", said)
         return "as before" if is_same else "silent"
 
     def all(self, changes: Sequence[Change]) -> list[str]:
