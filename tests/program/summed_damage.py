@@ -116,8 +116,8 @@ def try_device(worked: Worked, openings: Openings, is_short: bool) -> list[tuple
 
 
 def try_cut(courses: Courses) -> None:
-    """A closed gate that flips open, where a power failure left something whole behind it: that counts. A frame was then
-    never answered, and a half holds the same plant."""
+    """A closed gate that flips open, where a power failure left something whole behind it: that counts. A frame was
+    then never answered, and a half holds the same plant."""
     device = courses.made_at(0, FEW)
     counts = try_gate(courses, device, device.frames(True)[-1][0])
     check(counts == (FEW - 1, FEW), "of a commit that was cut so many actions count, and then:", counts)

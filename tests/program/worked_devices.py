@@ -8,7 +8,7 @@ import os
 from dataclasses import dataclass, field
 from typing import Iterator, Sequence
 
-from lib.program import PLANT, Desk, Fault, check, draw_lines, ends, run_words
+from lib.program import PLANT, Desk, Fault, Wrong, check, draw_lines, ends, run_words
 from lib.summed_device import ACTION, CLOSED, FRAME_HEAD, HEAD, HEADER, SummedDevice
 from lib.summed_reader import found
 
@@ -163,7 +163,7 @@ class Courses:
         for place, device in enumerate(self.spelled):
             if device.standing() == half and len(device.frames(True, half)) == frames:
                 return place
-        raise AssertionError("the lines are too few")
+        raise Wrong(f"no answer leaves half {half} with {frames} frames")
 
     def made_at(self, half: int, frames: int) -> SummedDevice:
         """The device of version 03 once that half stands with so many frames."""
