@@ -1,13 +1,14 @@
 #!/usr/bin/env python3
 """Servers beside each other, in turns, under the loads that users bring about.
 
-    bench/serve/run.py [NAME=PROGRAM..] [gather] [plain] [redis] [sqlite] [postgres] [--turns 3] [--seconds 2]
-                       [--loads WORD,..] [--largest] [--disk BYTES] [--clock] [--picture FILE]
+    bench/serve/run.py [NAME=PROGRAM..] [gather] [plain] [redis] [sqlite] [postgres] [--version 03] [--turns 3]
+                       [--seconds 2] [--loads WORD,..] [--largest] [--disk BYTES] [--clock] [--picture FILE]
 
 PROGRAM is a build of alm_server, `plain` the server in C beside this file, `gather` the same where it waits for those
 whom it answered; without names it is this repository's build beside plain. The others are what Debian has of them, each
-set so that an answer is durable (others.py); they take the closed loads alone, redis apart_18 too. The last one is what
-the others are compared with. Each fdatasync sleeps 0.2 ms (sync.c), and with --disk longer, a microsecond for so many
+set so that an answer is durable (others.py); they take the closed loads alone, redis apart_18 too. With --version each
+PROGRAM runs as NAME_VERSION too, before it, over a device of that version. The last one is what the others are compared
+with. Each fdatasync sleeps 0.2 ms (sync.c), and with --disk longer, a microsecond for so many
 bytes. Servers and clients run under one scheduling class (SCHED_RR), each load of each server on a new device, the
 servers in turn, another of them first in each turn: who comes behind the last one of the turn before is some 2 %
 slower. A turn of which the host stole more than 5 % is made again, twice at most.
@@ -77,6 +78,29 @@ def table(largest: bool) -> str:
     return f"size = {size}\nareas = {areas}\n" + "".join(f"\n[[alarm]]\n{alarm}" for alarm in (first, *others))
 
 
+@dataclass(frozen=True)
+class Program:
+    """A program's path, or the name of another server; and the version of its device, if not what `format` makes."""
+
+    path: str
+    version: str = ""
+
+    def format(self) -> list[str]:
+        """The words that make a device of the plant."""
+        return [self.path, "format", *(["--version", self.version] if self.version else [])]
+
+
+def programs_of(words: list[str], version: str) -> dict[str, Program]:
+    """The programs by their names. With a version each that is a path is there twice."""
+    programs = {}
+    for name, _, path in (word.partition("=") for word in words):
+        at = str(pathlib.Path(path).resolve()) if path else name
+        if path and version:
+            programs[f"{name}_{version}"] = Program(at, version)
+        programs[name] = Program(at)
+    return programs
+
+
 def stolen() -> tuple[int, int]:
     """Ticks that the host stole so far, and all ticks."""
     with open("/proc/stat", encoding="ascii") as file:
@@ -104,19 +128,18 @@ class Bench:
             subprocess.run(["cc", "-O2", "-o", self.folder / name, *words], check=True, cwd=HERE)
         (self.folder / "plant.toml").write_text(table(largest), encoding="ascii")
 
-    def words(self, program: str) -> list[str]:
+    def words(self, program: Program) -> list[str]:
         """The words that start a server on a new device."""
         device = self.folder / "device"
         device.unlink(missing_ok=True)
-        if program in ("plain", "gather"):
-            return [str(self.folder / "plain"), str(device), str(self.port), program]
+        if program.path in ("plain", "gather"):
+            return [str(self.folder / "plain"), str(device), str(self.port), program.path]
         fresh = self.folder / f"fresh{abs(hash(program))}"
         if not fresh.exists():
-            subprocess.run(
-                [program, "format", fresh, self.folder / "plant.toml"], check=True, stdout=subprocess.DEVNULL
-            )
+            words = [*program.format(), str(fresh), str(self.folder / "plant.toml")]
+            subprocess.run(words, check=True, stdout=subprocess.DEVNULL)
         shutil.copyfile(fresh, device)
-        return [program, "serve", str(device), "--port", str(self.port)]
+        return [program.path, "serve", str(device), "--port", str(self.port)]
 
     def syncs(self) -> int:
         return int.from_bytes((self.folder / "count").read_bytes(), "little")
@@ -124,12 +147,12 @@ class Bench:
     def client(self, verb: str, seconds: float, *words: str) -> list[str]:
         return [*CLASS, str(self.folder / "client"), str(self.port), verb, str(seconds), *words]
 
-    def measure(self, program: str, load: str, seconds: float) -> dict[str, float]:
+    def measure(self, program: Program, load: str, seconds: float) -> dict[str, float]:
         """A turn of a load."""
         for left in ("count", "clock"):
             (self.folder / left).unlink(missing_ok=True)
-        if program in OTHERS:
-            return self.other(program, load.split(), seconds)
+        if program.path in OTHERS:
+            return self.other(program.path, load.split(), seconds)
         with Server(self, self.words(program)) as server:
             before, took = stolen(), self.idle if load == "idle" else self.load
             figures = took(server, load.split(), seconds)
@@ -221,7 +244,7 @@ class Server:
         return int(status.split("VmHWM:")[1].split()[0]) / 1000
 
 
-def turn(bench: Bench, name: str, program: str, load: str, seconds: float) -> dict[str, float]:
+def turn(bench: Bench, name: str, program: Program, load: str, seconds: float) -> dict[str, float]:
     """A turn, made again where the host stole much of it."""
     for _ in range(TRIES):
         figures = bench.measure(program, LOADS[load], seconds)
@@ -289,6 +312,7 @@ def ratio(figures: dict[str, float], figure: str, others: dict[str, float] | Non
 def main() -> None:
     words = argparse.ArgumentParser(description=__doc__, formatter_class=argparse.RawDescriptionHelpFormatter)
     words.add_argument("servers", nargs="*", default=[f"ours={BUILT}", "plain"], help="NAME=PROGRAM, or a name")
+    words.add_argument("--version", default="", help="of a second device of each PROGRAM: 03")
     words.add_argument("--turns", type=int, default=3)
     words.add_argument("--seconds", type=float, default=2.0, help="of a load")
     words.add_argument("--loads", default="", help="names of loads, or their beginnings, with commas between")
@@ -298,10 +322,7 @@ def main() -> None:
     words.add_argument("--clock", action="store_true", help="where the time of a round goes")
     words.add_argument("--picture", type=pathlib.Path, help="the file of a picture, SVG")
     chosen = words.parse_args()
-    programs = dict(
-        (name, str(pathlib.Path(path).resolve()) if path else name)
-        for name, _, path in (word.partition("=") for word in chosen.servers)
-    )
+    programs = programs_of(chosen.servers, chosen.version)
     loads = [
         load
         for load in LOADS

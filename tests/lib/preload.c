@@ -27,10 +27,10 @@
  *     held          the call waits while the file ALM_MET exists, then goes on
  *     short         a write or read of half the bytes, where it has more than one
  *     kill          the process is killed before the call
- *     old new zeros a5 ff alternating mixed
+ *     old new 00 a5 5a ff any alternating mixed sectors
  *                   the power fails in the call: what was written since the last sync, this call's bytes too, becomes what stood
- *                   there before, or what was written, or such bytes, or byte for byte by lot one of these. Then the process is killed.
- *                   A rename is on the disk then
+ *                   there before, or what was written, or such or drawn bytes, or one of these by lot, for each byte or each sector
+ *                   of 512. Then the process is killed. A rename is on the disk then
  *
  * A device is the file whose calls are positional; each file has its own list of pending writes.
  */
@@ -216,15 +216,14 @@ static unsigned draw(void) {
 }
 
 /* What a byte becomes at a failure of the power. */
-static unsigned char outcome(unsigned char old, unsigned char new, size_t place, const char *how) {
-    static const char *const lots[] = {"old", "new", "zeros", "a5", "ff"};
-    if (!strcmp(how, "mixed")) return outcome(old, new, place, lots[draw() % 5]);
-    if (!strcmp(how, "alternating")) return place % 2 ? old : new;
-    if (!strcmp(how, "new")) return new;
-    if (!strcmp(how, "zeros")) return 0;
-    if (!strcmp(how, "a5")) return 0xA5;
-    if (!strcmp(how, "ff")) return 0xFF;
-    return old;
+static unsigned char outcome(unsigned char old, unsigned char new, off_t at, const char *how) {
+    static const char *const lots[] = {"old", "new", "00", "a5", "5a", "ff", "any"};
+    if (!strcmp(how, "mixed")) return outcome(old, new, at, lots[draw() % 7]);
+    if (!strcmp(how, "sectors")) return outcome(old, new, at, lots[((seed + at / 512) * 0x9E3779B97F4A7C15 >> 32) % 7]);
+    if (!strcmp(how, "alternating")) return at % 2 ? old : new;
+    if (!strcmp(how, "any")) return draw();
+    unsigned byte = old;
+    return !strcmp(how, "new") ? new : (sscanf(how, "%2x", &byte), byte);
 }
 
 static void note(int file, const void *new, size_t length, off_t at) {
@@ -261,7 +260,7 @@ static void fail_power(void) {
     for (struct pending *one = pending; one; one = one->next) {
         unsigned char *now = take(one->length);
         for (size_t i = 0; i < one->length; i++)
-            now[i] = outcome(one->bytes[i], one->bytes[one->length + i], i, kind);
+            now[i] = outcome(one->bytes[i], one->bytes[one->length + i], one->at + i, kind);
         syscall(SYS_pwrite64, one->file, now, one->length, one->at);
     }
     die();

@@ -18,6 +18,9 @@ from .places import EXAMPLES, TESTS
 
 PLANT = str(EXAMPLES / "plant.toml")
 
+# Those that `format` makes.
+VERSIONS = ("02", "03")
+
 # What drawn lines ask besides plain actions. Each reply is of the plant alone: what SINCE tells of the actions up to a
 # count goes by the program that counts them, so here it has no entry, or the number is none.
 QUERIES = ["LIST P 1", "LIST A 0", "STATE 0", "CHATTER", "NOTHING", "FLOOD 1", "ATTR 1", "ROW 1", "PLANT"]
@@ -193,14 +196,14 @@ def stopped_reply(line, reply):
 class Course:
     """A device, lines for a desk over it, their replies, and what the device stands for after each."""
 
-    def __init__(self, program, folder, seed, count, table=PLANT, lines=None, start=None):
+    def __init__(self, program, folder, seed, count, table=PLANT, lines=None, start=None, version="02"):
         self.program, self.folder = program, folder
         self.lines = lines or draw_lines(seed, count)
         self.fresh = os.path.join(folder, f"fresh{seed}")
         if start:
             shutil.copyfile(start, self.fresh)
         else:
-            run = run_words(program, ["format", self.fresh, table])
+            run = run_words(program, ["format", self.fresh, table, "--version", version])
             check(run.returncode == 0, "format", run.stderr)
         self.states, self.replies = [state(program, self.fresh)], []
         device, copy = os.path.join(folder, "course"), os.path.join(folder, "copy")

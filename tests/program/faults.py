@@ -3,9 +3,9 @@
 
     tests/program/faults.py PROGRAM [--short]
 
-`format`, `show`, `export` and `desk` run over devices, `desk` over one of version 03 too. First without a fault: they
-make the calls that calls.py lists. Then once for each call that they make and each way in which it may go wrong
-(preload.c lists them). After each:
+`format`, `show`, `export` and `desk` run over devices of versions 02 and 03. First without a fault: they make the calls
+that calls.py lists. Then once for each call that they make and each way in which it may go wrong (preload.c lists
+them). After each:
 
 - the failure was reported, by the fault line that is due and its status, and the device wasn't called any more; - no
 reply was given that the device didn't keep: it stands for what was answered, or for that with the one line in doubt; -
@@ -38,6 +38,7 @@ from lib.calls import (
 )
 from lib.program import (
     PLANT,
+    VERSIONS,
     Course,
     Desk,
     Fault,
@@ -53,11 +54,10 @@ from lib.program import (
     stopped_reply,
 )
 from lib.disks import mount, unmount
-from lib.summed_device import SummedDevice
 
 ERRORS = ["eio", "enospc"]
-GARBLES = ["a5", "ff", "mixed"]
-CUTS = ["kill", "old", "new", "zeros", "alternating", *GARBLES]
+GARBLES = ["a5", "5a", "ff", "any", "mixed", "sectors"]
+CUTS = ["kill", "old", "new", "00", "alternating", *GARBLES]
 
 # The worked plant on its device.
 LAYOUT = Layout(28_997, 4, 2)
@@ -154,18 +154,8 @@ class Faults:
                     continue
                 raise Wrong(f"{words[0]} that ignores {fault.text} isn't refused")
 
-    def summed(self):
-        """A new device of version 03."""
-        path = os.path.join(self.folder, "summed")
-        run = run_words(self.program, ["format", path, PLANT])
-        check(run.returncode == 0, "format", run.stderr)
-        device = SummedDevice(path)
-        device.spell_03()
-        device.write(path)
-        return path
-
-    def desk(self, seed, count, start=None):
-        course = Course(self.program, self.folder, seed, count, start=start)
+    def desk(self, seed, count, version):
+        course = Course(self.program, self.folder, seed, count, version=version)
         lines = b"".join(course.lines)
         said, made = self.whole(["desk", course.device()], lines)
         check_list(split_opening(on_device(made), opening(), "desk"), commits(LAYOUT, said.count(b" OK ")), "desk")
@@ -252,10 +242,10 @@ class Faults:
         check((name == b"") == (answered == len(replies)), fault.text, name, answered)
         return answered
 
-    def format(self, over):
+    def format(self, version, over):
         """`format` of a new file, or over a device that stands for something."""
         device = os.path.join(self.folder, "made")
-        words = ["format", device, PLANT]
+        words = ["format", device, PLANT, "--version", version]
         before = self.put(device, over)
         _, made = self.whole(words)
         check_made(on_device(made), LAYOUT)
@@ -276,7 +266,7 @@ class Faults:
             else:
                 run, name = self.failed(words, fault, made)
                 check((name == b"") == (run.stdout != b""), fault.text, name, run.stdout)
-            self.judge_made(device, fault, [fresh, before], over is not None or fault.kind in GARBLES)
+            self.judge_made(words, fault, [fresh, before], over is not None or fault.kind in GARBLES)
         self.ignored(words, made, lambda: self.put(device, over))
 
     def put(self, device, over):
@@ -289,9 +279,10 @@ class Faults:
             file.write(over)
         return state(self.program, device)
 
-    def judge_made(self, device, fault, states, may_be_damaged):
+    def judge_made(self, words, fault, states, may_be_damaged):
         """A format that was cut short leaves what was there, nothing, or the new plant. Where the power failed over
         bytes that were pending, it may leave damage, which the next format mends."""
+        device = words[1]
         run = run_words(self.program, ["show", device])
         name = ends(run, fault, "show")
         if name == b"":
@@ -299,7 +290,7 @@ class Faults:
         else:
             damaged = may_be_damaged and name.startswith(b"damaged")
             check(damaged or name in (b"unformatted", b"io"), fault.text, name)
-        run = run_words(self.program, ["format", device, PLANT])
+        run = run_words(self.program, words)
         check(run.returncode == 0 and state(self.program, device) == states[0], fault.text, "can't be formatted again")
 
     def show(self, command, device):
@@ -325,9 +316,9 @@ class Faults:
                 check(file.read() == bytes_before, fault.text, command, "wrote")
         self.ignored([command, device], made, lambda: None)
 
-    def old_device(self, seed):
+    def old_device(self, seed, version):
         """The bytes of a device with stored actions. It is shown and exported."""
-        Course(self.program, self.folder, seed, 40)
+        Course(self.program, self.folder, seed, 40, version=version)
         device = os.path.join(self.folder, "course")
         for command in ("show", "export"):
             self.show(command, device)
@@ -346,7 +337,7 @@ class Faults:
         os.mkdir(small)
         mount("none", small, "tmpfs", f"size={LONG // 2}")
         try:
-            for before in (b"", self.old_device(4)):
+            for before in (b"", self.old_device(4, "02")):
                 self.no_room(os.path.join(small, "device"), table, before)
         finally:
             unmount(small)
@@ -370,11 +361,12 @@ def main():
     os.umask(0)
     faults = Faults(program, folder, step)
     try:
-        old = faults.old_device(1)
-        faults.format(None)
-        faults.format(old)
-        for seed, count, start in ((2, 150, None), (3, 420, None), (5, 420, faults.summed())):
-            faults.desk(seed, count, start)
+        olds = [faults.old_device(1, version) for version in VERSIONS]
+        for version in VERSIONS:
+            for over in (None, *olds):
+                faults.format(version, over)
+        for seed, count, version in ((2, 150, "02"), (3, 420, "02"), (5, 420, "03")):
+            faults.desk(seed, count, version)
         faults.linked()
         faults.folders()
         full = faults.full_disk()

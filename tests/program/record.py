@@ -6,7 +6,7 @@
 Contracts see of a file the record of its calls: what was read, written and synced, where, and with which bytes. No code
 sees it. In three bodies of alm_file a call and its note stand side by side, so a note without its call, or of another
 one, would be proved. Here a library beneath the program writes down each call that was made, with its bytes. After each
-run of `desk`, `serve`, `show` and `format`:
+run of `desk`, `serve`, `show` and `format` over devices of versions 02 and 03:
 
 - the calls are those that are due, in their order, at their places (calls.py): no call is missing, and none is made
 besides; - by what the file held and by these calls alone, each read gave what the file had then, and at the end the
@@ -25,12 +25,13 @@ import sys
 import time
 
 from lib.calls import FRAME, HEAD, HEADER, SYNC, Layout, commits, formatting
-from lib.program import PLANT, Wrong, begin, check, finish, free_ports, preload, run_words
+from lib.program import PLANT, VERSIONS, Wrong, begin, check, finish, free_ports, preload, run_words
 
 from alarms.device_file import DeviceFile, NoDevice
 
 LAYOUT = Layout(28_997, 4, 2)
 CLOCK = 17
+SHORT = 150
 # A wrong body, and the commands whose runs have to show it.
 BODIES = {
     "unsynced": ("desk", "serve", "format", "show"),
@@ -97,16 +98,20 @@ def reads(half):
 class Records:
     """The calls on a device's file, as the system and as the record have them."""
 
-    def __init__(self, program, folder, count):
-        self.program, self.folder, self.count = program, folder, count
+    def __init__(self, program, folder, count, version):
+        self.program, self.folder, self.count, self.version = program, folder, count, version
         self.library = preload(folder)
         self.list, self.device = os.path.join(folder, "bytes"), os.path.join(folder, "device")
         self.new, self.older = os.path.join(folder, "new"), os.path.join(folder, "older")
         self.events = self.runs = self.refused = 0
 
+    def formatting(self, path):
+        """The words that make a device."""
+        return ["format", path, PLANT, "--version", self.version]
+
     def prepare(self):
         """A new device; and one of the same plant, some actions on, whose bytes are yesterday's."""
-        check(run_words(self.program, ["format", self.new, PLANT]).returncode == 0, "format")
+        check(run_words(self.program, self.formatting(self.new)).returncode == 0, "format")
         shutil.copy(self.new, self.older)
         lines = b"".join(b"%d %d CLOCK %d\n" % (CLOCK, n, n) for n in range(1, 4))
         check(run_words(self.program, ["desk", self.older], {}, lines).stdout.count(b" OK ") == 3, "desk")
@@ -236,7 +241,7 @@ class Records:
         was read."""
         with open(self.device, "wb") as file:
             file.write(b"\xa5" * LAYOUT.size)
-        run = run_words(self.program, ["format", self.device, PLANT], self.loaded(body))
+        run = run_words(self.program, self.formatting(self.device), self.loaded(body))
         check(run.returncode == 0, "format", run.stderr)
         made = self.made()
         behind = next((place for place, event in enumerate(made) if event.call() == ("pwrite", 0, 1)), len(made))
@@ -265,25 +270,33 @@ class Records:
         raise Wrong(f"{command} of a program that is {body} isn't refused")
 
 
+def tried(records, bodies):
+    """Tries each command, and these wrong bodies."""
+    records.prepare()
+    for command in ("desk", "serve", "show", "format"):
+        getattr(records, command)()
+    for body, commands in bodies.items():
+        for command in commands:
+            records.refuse(body, command)
+
+
 def main():
-    program, count, folder = begin("record", sys.argv, 500, 150)
+    program, count, folder = begin("record", sys.argv, 500, SHORT)
     started = time.monotonic()
-    records = Records(program, folder, count)
-    try:
-        records.prepare()
-        for command in ("desk", "serve", "show", "format"):
-            getattr(records, command)()
-        for body, commands in BODIES.items():
-            for command in commands:
-                records.refuse(body, command)
-    except Wrong as wrong:
-        sys.exit(f"record: {wrong}; devices are in {folder}")
+    every = [Records(program, folder, count, version) for version in VERSIONS]
+    for records in every:
+        try:
+            # In a short run the script is tried by one version.
+            tried(records, {} if count == SHORT and records is not every[0] else BODIES)
+        except Wrong as wrong:
+            sys.exit(f"record: version {records.version}: {wrong}; devices are in {folder}")
+    runs, events, refused = (sum(getattr(one, what) for one in every) for what in ("runs", "events", "refused"))
     finish(
         "record",
         folder,
         (
-            f"{records.runs} runs with {records.events} calls, each as the record has it; {records.refused} wrong"
-            f" bodies refused; {time.monotonic() - started:.0f} s"
+            f"{runs} runs with {events} calls, over devices of versions {' and '.join(VERSIONS)}, each as the record"
+            f" has it; {refused} wrong bodies refused; {time.monotonic() - started:.0f} s"
         ),
     )
 

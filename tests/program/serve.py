@@ -33,13 +33,12 @@ from drawn_lines import draw_line
 from lib.plain_plant import Plant
 from lib.calls import Layout, check_list, commits, on_device, opening, read_calls, split_opening
 from lib.places import TOP
-from lib.program import PLANT, PORTS, Fault, Wrong, begin, check, finish, preload, run_words, state
+from lib.program import PLANT, PORTS, VERSIONS, Fault, Wrong, begin, check, finish, preload, run_words, state
 from lib.server import END_WITHIN, Server
 from serve_clients import Client, OUT, Pipeliner, SLOTS, accepted_of
 
 LAYOUT = Layout(28_997, 4, 2)  # of the worked plant
-# syncs that take their time
-SLOW = str(TOP / "bench" / "serve" / "sync.c")
+SLOW = str(TOP / "bench" / "serve" / "sync.c")  # syncs that take their time
 FEW = [
     (b"1 SHELVE 0 60", b"1 OK 1\n"),
     (b"2 LIST P 1", b"2 LIST 1 0\n"),
@@ -49,7 +48,7 @@ FEW = [
 ]
 DISK, STOPPED, MEMORY = b"fault disk\n", b"fault stopped\n", b"fault memory\n"
 KILLED = -9  # the status of a server that this script ended
-KINDS = ["eio", "enospc", "kill", "old", "new", "zeros", "a5", "ff", "alternating", "mixed"]
+KINDS = ["eio", "enospc", "kill", "old", "new", "00", "a5", "5a", "ff", "any", "alternating", "mixed", "sectors"]
 
 
 class Serving:
@@ -59,8 +58,9 @@ class Serving:
         self.program, self.folder = program, folder
         self.library = preload(folder)
         self.port = random.Random(time.time_ns()).randrange(*PORTS)
-        self.fresh = os.path.join(folder, "fresh")
-        check(run_words(program, ["format", self.fresh, PLANT]).returncode == 0, "format")
+        self.fresh = [os.path.join(folder, f"fresh{version}") for version in VERSIONS]
+        for path, version in zip(self.fresh, VERSIONS):
+            check(run_words(program, ["format", path, PLANT, "--version", version]).returncode == 0, "format")
 
     def start(self, device, loaded=None, words=()):
         """A server, at ports that are free."""
@@ -74,16 +74,16 @@ class Serving:
     def replay(self, actions):
         """What a device stands for after these desk lines."""
         device = os.path.join(self.folder, "replayed")
-        shutil.copyfile(self.fresh, device)
+        shutil.copyfile(self.fresh[0], device)
         run = run_words(self.program, ["desk", device], lines="".join(actions).encode())
         check(run.returncode == 0, "desk", run.stderr)
         return state(self.program, device)
 
     def one_fault(self, fault, seed, count, told=None, body=None, within=END_WITHIN):
         """Clients of a server in which a call fails. What it said at its end. If the call came, it ended by itself,
-        with the line that is due."""
+        with the line that is due. Odd seeds are of version 03."""
         device = os.path.join(self.folder, "device")
-        shutil.copyfile(self.fresh, device)
+        shutil.copyfile(self.fresh[seed % 2], device)
         server = self.start(device, {**fault.loaded, **(body or {})})
         clients = [Client(server, slot, seed * 100 + slot, count) for slot in SLOTS] if server.serves else []
         for client in clients:
@@ -139,7 +139,7 @@ class Serving:
     def listed(self, count):
         """One client that asks one action after another, and the calls on the device meanwhile. How many there were."""
         device, path = os.path.join(self.folder, "device"), os.path.join(self.folder, "calls")
-        shutil.copyfile(self.fresh, device)
+        shutil.copyfile(self.fresh[0], device)
         server = self.start(device, {"LD_PRELOAD": self.library, "ALM_CALLS": path})
         with server.connect(17) as one, one.makefile("rb") as replies:
             for moment in range(1, count + 1):
@@ -163,7 +163,7 @@ class Serving:
         """Clients at all slots, and nothing fails: the device stands for what was accepted, in the order of its
         numbers. Nobody else opens it meanwhile."""
         device = os.path.join(self.folder, "device")
-        shutil.copyfile(self.fresh, device)
+        shutil.copyfile(self.fresh[0], device)
         server = self.start(device)
         for words in (["show", device], ["desk", device], ["serve", device, "--port", "1024"]):
             run = run_words(self.program, words)
@@ -197,7 +197,7 @@ class Serving:
         """Clients at all slots with as many requests out as each may have, over a disk that takes a millisecond for
         1,000 bytes, so that full batches wait for one another: all replies come in order, within 15 seconds."""
         device = os.path.join(self.folder, "device")
-        shutil.copyfile(self.fresh, device)
+        shutil.copyfile(self.fresh[0], device)
         server = self.start(device, self.slow(SYNC_BYTES_A_US="1"))
         started = time.monotonic()
         clients = [Pipeliner(server, slot, count) for slot in range(18)]
@@ -226,7 +226,7 @@ class Serving:
         and both go by one commit. A server that waits for nobody makes two, where nothing else runs that holds its
         threads up until both have come. As others may hold up a client, the best of ten tries counts."""
         device = os.path.join(self.folder, "device")
-        shutil.copyfile(self.fresh, device)
+        shutil.copyfile(self.fresh[0], device)
         server = self.start(device, self.slow(SYNC_US="1000"))
         with server.connect(0) as first, server.connect(5) as second:
             tries = (self.commits_in(first, second, range(at, at + rounds)) for at in range(1, 10 * rounds, rounds))
@@ -253,7 +253,7 @@ class Serving:
         """59 actions use more than half of the least segment, and nobody asks any more: the checkpoint goes out all the
         same."""
         device = os.path.join(self.folder, "device")
-        shutil.copyfile(self.fresh, device)
+        shutil.copyfile(self.fresh[0], device)
         server = self.start(device)
         with server.connect(17) as one, one.makefile("rb") as replies:
             for moment in range(1, 60):
@@ -275,7 +275,7 @@ class Serving:
     def one_refusal(self, fault):
         """A connection, and its end; without a fault, how often each call is made."""
         device, counts = os.path.join(self.folder, "device"), os.path.join(self.folder, "counts")
-        shutil.copyfile(self.fresh, device)
+        shutil.copyfile(self.fresh[0], device)
         loaded = fault.loaded if fault else {"LD_PRELOAD": self.library, "ALM_COUNTS": counts}
         server = self.start(device, loaded, ["--conns", "1"])
         said = self.ask_few(server) if server.serves else []
@@ -315,7 +315,7 @@ class Serving:
     def cut_lines(self, seed, count):
         """Lines of one slot, in pieces that end anywhere. How many there were."""
         device = os.path.join(self.folder, "device")
-        shutil.copyfile(self.fresh, device)
+        shutil.copyfile(self.fresh[0], device)
         server = self.start(device)
         dice, plant = random.Random(seed), Plant()
         drawn = []
@@ -339,7 +339,7 @@ class Serving:
         """Connections that end their sending while replies are owed, one after the other: each gets its replies, and
         its end."""
         device = os.path.join(self.folder, "device")
-        shutil.copyfile(self.fresh, device)
+        shutil.copyfile(self.fresh[0], device)
         server = self.start(device)
         dice = random.Random(seed)
         for _ in range(count):

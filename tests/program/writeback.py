@@ -3,9 +3,9 @@
 
     tests/program/writeback.py PROGRAM [--short]
 
-The device lies on ext4, and on xfs if mkfs.xfs is installed, over a disk whose writes fail on demand (badfs.c). What
-the kernel does with the bytes that the disk refused is the kernel's own. In each way the disk fails while one sync
-runs:
+The device, of version 02 and then of 03, lies on ext4, and on xfs if mkfs.xfs is installed, over a disk whose writes
+fail on demand (badfs.c). What the kernel does with the bytes that the disk refused is the kernel's own. In each way the
+disk fails while one sync runs:
 
     desk, serve   each sync of a run with a checkpoint. The failure is reported, and the program ends by itself. A
                   second later it is started again, as its unit does, and answers further requests.
@@ -35,7 +35,20 @@ import time
 
 from lib.calls import Layout, read_calls
 from check_cached import Holding, may_start
-from lib.program import TESTS, Course, Fault, Wrong, begin, check, count_of, draw_lines, finish, preload, run_words
+from lib.program import (
+    TESTS,
+    VERSIONS,
+    Course,
+    Fault,
+    Wrong,
+    begin,
+    check,
+    count_of,
+    draw_lines,
+    finish,
+    preload,
+    run_words,
+)
 from lib.disks import SKIPPED
 from lib.server import Lines
 from failing_disk import Disk, SYSTEMS
@@ -185,11 +198,12 @@ class CachedWay(Way):
 class Writeback:
     """A course of lines, and the disks over which the ways are tried."""
 
-    def __init__(self, program, folder):
+    def __init__(self, program, folder, version):
         self.folder = folder
+        os.mkdir(folder)
         self.library, self.badfs = preload(folder), os.path.join(folder, "badfs")
         subprocess.run(["cc", "-O2", "-o", self.badfs, os.path.join(TESTS, "program", "badfs.c")], check=True)
-        self.course = Course(program, folder, 7, 0, lines=draw_course(7, BEFORE + RUN + AFTER + 1))
+        self.course = Course(program, folder, 7, 0, lines=draw_course(7, BEFORE + RUN + AFTER + 1), version=version)
         self.start, self.made = self.rehearse()
         self.failures, self.disks = itertools.count(), itertools.count()
 
@@ -272,11 +286,9 @@ def summary(wrong, count):
     )
 
 
-def try_ways(program, folder, step):
-    """Goes the ways on each file system, and then some with the wrong bodies. How many there were."""
-    writeback = Writeback(program, folder)
-    ways, gates = writeback.ways(), [("desk", "fdatasync", at) for at in writeback.gates()]
-    counts = {}
+def try_ways(writeback, gates, step):
+    """Goes the ways on each file system, in a short run some of them and those at gates. How many there were."""
+    ways, counts = writeback.ways(), {}
     for system in [name for name in SYSTEMS if shutil.which(SYSTEMS[name][1][0])]:
         here = ways[::step] + gates if step > 1 else ways
         wrong = writeback.all(system, here)
@@ -285,13 +297,18 @@ def try_ways(program, folder, step):
         check(2 * failures > len(here), system + ": the disk has failed in", failures, "ways alone")
         counts[system] = f"{len(here)}, {failures} of them with a failure"
         writeback.failures = itertools.count()
-    counts |= try_cached(writeback, gates)
+    return counts
+
+
+def try_bodies(writeback, gates):
+    """Goes some ways with the wrong bodies. How many were refused."""
+    counts = {}
     for body, does in BODIES.items():
         found = writeback.all("ext4", gates, body)
         losing = sum("lost" in one for one in found)
         check(losing, "a program that", does, "isn't refused:", found)
         counts[f"of a program that {does}"] = f"{len(found)} of {len(gates)} refused ({losing} lose answered actions)"
-    return ", ".join(f"{what} {count}" for what, count in counts.items())
+    return counts
 
 
 def try_cached(writeback, gates):
@@ -314,11 +331,20 @@ def main():
         sys.exit(SKIPPED)
     program, step, folder = begin("writeback", sys.argv, 1, 9)
     started = time.monotonic()
+    counts = {}
     try:
-        said = try_ways(program, folder, step)
+        for version in VERSIONS:
+            writeback = Writeback(program, os.path.join(folder, version), version)
+            gates = [("desk", "fdatasync", at) for at in writeback.gates()]
+            ways = try_ways(writeback, gates, step)
+            # In a short run one version tries the cache and the script itself.
+            if step == 1 or version == VERSIONS[0]:
+                ways |= try_cached(writeback, gates) | try_bodies(writeback, gates)
+            counts |= {f"{what} of {version}": count for what, count in ways.items()}
     except Wrong as wrong:
         shutil.rmtree(folder)
-        sys.exit(f"writeback: {wrong}")
+        sys.exit(f"writeback: version {version}: {wrong}")
+    said = ", ".join(f"{what} {count}" for what, count in counts.items())
     finish("writeback", folder, f"ways: {said}; none wrong, {time.monotonic() - started:.0f} s")
 
 

@@ -15,7 +15,7 @@ EARLIER = EXAMPLES / "earlier_release" / "plant.device"
 OPEN = 0xA5
 
 
-CUTS = ["kill", "old", "new", "zeros", "alternating", "a5", "ff", "mixed"]
+CUTS = ["kill", "old", "new", "00", "alternating", "a5", "5a", "ff", "any", "mixed", "sectors"]
 
 
 FLIPS, IMAGES = 2_000, 800

@@ -19,7 +19,7 @@ class PageScene(Scene):
 
     count = 40
     setup = (
-        "alm_server format plant.device /tmp/plant.toml > /tmp/said && alm_server desk plant.device < /tmp/stored >"
+        "alm_server format plant.device /tmp/plant.toml --version {version} > /tmp/said && alm_server desk plant.device < /tmp/stored >"
         " /tmp/said2 && sync . && guest mark $LOG ready && sync && bash -e /tmp/block && cat /tmp/desked && [ $(cat"
         " /tmp/desked) = 0 ]"
     )
@@ -38,7 +38,7 @@ class PageScene(Scene):
         self.missing = 0
         self.blocks = Blocks.earlier() if self.earlier else Blocks.of_page()
         self.old_device = os.path.join(self.folder, "old.device")
-        subprocess.run([self.program, "format", self.old_device, common.PLANT], check=True, stdout=subprocess.DEVNULL)
+        self.format(self.old_device, common.PLANT, "--version", self.version)
         subprocess.run(
             [self.program, "desk", self.old_device], input=self.STORED, check=True, stdout=subprocess.DEVNULL
         )
@@ -47,9 +47,12 @@ class PageScene(Scene):
         self.make_start()
         self.course = common.Course(self.program, self.folder, self.seed, self.count, start=self.start)
 
+    def format(self, *words):
+        subprocess.run([self.program, "format", *words], check=True, stdout=subprocess.DEVNULL)
+
     def make_start(self):
         """The backup's device."""
-        subprocess.run([self.program, "format", self.start, common.PLANT], check=True, stdout=subprocess.DEVNULL)
+        self.format(self.start, common.PLANT, "--version", self.version)
 
     def block(self):
         raise NotImplementedError
@@ -146,14 +149,14 @@ class ChangeTable(PageScene):
         return b"#!/bin/sh\ncat /tmp/brought\n"
 
     def make_start(self):
-        """What the page's tool makes of the old device."""
+        """What the page's tool makes of the old device. The block says no version, so it is 02."""
         tool = os.path.join(TESTS, "..", "tools", "alm_change_table")
         table = os.path.join(self.folder, "new.toml")
         with open(table, "wb") as file:
             subprocess.run([self.program, "export", self.old_device], stdout=file, check=True)
         run = subprocess.run([tool, self.old_device, table, "--program", self.program], capture_output=True, check=True)
         self.brought = run.stdout
-        subprocess.run([self.program, "format", self.start, table], check=True, stdout=subprocess.DEVNULL)
+        self.format(self.start, table)
         subprocess.run([self.program, "desk", self.start], input=self.brought, check=True, stdout=subprocess.DEVNULL)
 
     def more_files(self):

@@ -1,15 +1,15 @@
 #!/usr/bin/env python3
 """The power fails under a real kernel's file systems: what does the device stand for then?
 
-    tests/machines/virtual/power.py PROGRAM PACKAGES [--short] [--systems ext4,xfs,btrfs] [--scenes desk,..] [--scale N]
-    [--draws N] [--seed N] [--seconds N]
+    tests/machines/virtual/power.py PROGRAM PACKAGES [--short] [--systems ext4,xfs,btrfs] [--scenes desk,..]
+    [--versions 02,03] [--scale N] [--draws N] [--seed N] [--seconds N]
 
 A virtual machine (tests/machines/virtual/machine.py) runs the program on ext4, xfs and btrfs, over a disk whose writes
 the kernel's dm-log-writes records. Then the states that a power failure may leave on the disk are put together here
 (tests/machines/virtual/writes.py): after each flush, after each forced write, and for drawn sets of the writes between
-two flushes. Each is mounted, and `show` judges the device (tests/machines/virtual/scenes.py). The blocks of
-docs/OPERATING.md that replace a device are among the scenes, word for word. The controls are programs whose syncs do
-nothing: they have to be found out.
+two flushes. Each is mounted, and `show` judges the device (tests/machines/virtual/scenes.py). Each scene runs over a
+device of version 02 and over one of 03. The blocks of docs/OPERATING.md that replace a device are among them, word for
+word. The controls are programs whose syncs do nothing: they have to be found out.
 
 PACKAGES is a folder with Debian's packages unpacked; nothing of them is installed, and what this system has needn't be
 there:
@@ -25,6 +25,7 @@ import argparse
 import collections
 import concurrent.futures
 import fcntl
+import itertools
 import os
 import queue
 import random
@@ -40,7 +41,7 @@ import time
 
 import writes
 from machine import Machine, Packages
-from lib.program import Wrong, check
+from lib.program import VERSIONS, Wrong, check
 from scenes import SCENES
 from lib.disks import FIBMAP, PAGE, SKIPPED, copy_filled, loop_over, mount, unmount
 
@@ -305,6 +306,7 @@ def arguments():
     parser.add_argument("--short", action="store_true", help="ext4 alone, few scenes, and less of each")
     parser.add_argument("--systems", help="of ext4, xfs and btrfs")
     parser.add_argument("--scenes", help="of " + ", ".join(SCENES))
+    parser.add_argument("--versions", default=",".join(VERSIONS), help="of the devices")
     parser.add_argument("--scale", type=float, default=1.0, help="factor of the number of requests")
     parser.add_argument("--draws", type=int, default=6, help="sets of writes that are drawn between two flushes")
     parser.add_argument("--seconds", type=int, default=240, help="time to judge one scene")
@@ -322,10 +324,11 @@ def arguments():
 def scenes_of(words, program, packages, folder):
     """The scenes that are asked for, each on its file systems."""
     chosen = [(system, name) for system in words.systems for name in words.scenes if system in SCENES[name].systems]
-    for system, name in chosen:
-        here = os.path.join(folder, f"{system}-{name}")
+    for (system, name), version in itertools.product(chosen, words.versions.split(",")):
+        here = os.path.join(folder, f"{system}-{name}-{version}")
         os.mkdir(here)
-        one = Recorded(system, name, SCENES[name](program, here, words.seed, words.scale), here)
+        scene = SCENES[name](program, here, words.seed, words.scale, version)
+        one = Recorded(system, f"{name} {version}", scene, here)
         one.make(packages)
         yield one
 

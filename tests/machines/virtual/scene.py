@@ -22,27 +22,34 @@ def compiled(folder, name, text):
 
 
 class Scene:
-    """`format`, then a desk that is asked line by line. After "ready" the device is there; after the N-th reply it
-    stands for N lines, or for the one in doubt as well."""
+    """`format` of a version, then a desk that is asked line by line. After "ready" the device is there; after the N-th
+    reply it stands for N lines, or for the one in doubt as well."""
 
     table = common.PLANT
     count = 200
     before = ""  # words before the program's
     is_control = False
     systems = ("ext4", "xfs", "btrfs")
-    setup = "{before} alm_server format plant.device /tmp/plant.toml > /tmp/said && guest mark $LOG ready"
+    setup = (
+        "{before} alm_server format plant.device /tmp/plant.toml --version {version} > /tmp/said && guest mark $LOG"
+        " ready"
+    )
     asks = " && {before} guest desk $LOG plant.device /tmp/lines"
 
-    def __init__(self, program, folder, seed, scale):
-        self.program, self.folder, self.seed = program, folder, seed
+    def __init__(self, program, folder, seed, scale, version):
+        self.program, self.folder, self.seed, self.version = program, folder, seed, version
         self.count = max(20, int(self.count * scale))
         self.prepare()
         self.states = self.course.states
         self.files = {"plant.toml": read(self.table), "lines": b"".join(self.course.lines), **self.more_files()}
-        self.script = (self.setup + self.asks).format(before=self.before)
+        self.script = (self.setup + self.asks).format(before=self.before, version=version)
 
     def prepare(self):
-        self.course = common.Course(self.program, self.folder, self.seed, self.count, self.table, self.lines())
+        self.course = self.course_of(self.seed, self.count, self.lines())
+
+    def course_of(self, seed, count, lines):
+        """The lines to a new device, and what it holds after each."""
+        return common.Course(self.program, self.folder, seed, count, self.table, lines, version=self.version)
 
     def lines(self):
         """The desk's lines, or None for drawn ones."""

@@ -25,7 +25,7 @@ class Format(Scene):
     count = 20
     setup = (
         "cp /tmp/old.device plant.device && sync plant.device . && guest mark $LOG old &&"
-        " alm_server format plant.device /tmp/plant.toml > /tmp/said && guest mark $LOG ready"
+        " alm_server format plant.device /tmp/plant.toml --version {version} > /tmp/said && guest mark $LOG ready"
     )
 
     def more_files(self):
@@ -75,9 +75,7 @@ class Serve(Scene):
                 _, slot, number, request = mark.split(":", 3)
                 actions[int(number)] = f"{slot} 1 {request.replace('_', ' ')}\n".encode()
         common.check(actions and sorted(actions) == list(range(1, len(actions) + 1)), "a number is missing")
-        course = common.Course(
-            self.program, self.folder, 0, 0, self.table, [actions[number] for number in sorted(actions)]
-        )
+        course = self.course_of(0, 0, [actions[number] for number in sorted(actions)])
         for number, reply in enumerate(course.replies, 1):
             common.check(reply.endswith(b" OK %d\n" % number), "the action", number, "isn't accepted:", reply)
         self.states = course.states
@@ -123,7 +121,7 @@ class Holes(Scene):
     """A device that was copied with holes."""
 
     setup = (
-        "alm_server format full.device /tmp/plant.toml > /tmp/said && guest holes full.device plant.device && guest"
+        "alm_server format full.device /tmp/plant.toml --version {version} > /tmp/said && guest holes full.device plant.device && guest"
         " mark $LOG ready"
     )
 
