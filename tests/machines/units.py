@@ -266,6 +266,20 @@ def clock_ran_ahead():
     check(acknowledged() == "OOSRV", "the states behind a clock that was set back")
 
 
+def device_version():
+    """The device becomes one of version 03 with its count of actions, and goes back."""
+    before, block = count(), block_of("The device's version", "upgrade")
+    check("upgraded 03 " in run(block), "the device isn't upgraded")
+    active(SERVER, CLOCK_UNIT)
+    with open("/var/lib/alarms/plant.device", "rb") as file:
+        name = file.read(9)[1:]
+    check(name == b"ALMSRV03" and count() >= before, "a device", name, "of", count(), "actions, and before of", before)
+    back = block.replace("upgrade plant.device", "upgrade plant.device --version 02")
+    check("upgraded 02 " in run(back), "the device doesn't go back")
+    active(SERVER, CLOCK_UNIT)
+    moves()
+
+
 def upgrade():
     """From an earlier release's units at ports, and back to them."""
     output("systemctl", "disable", "--now", SERVER, CLOCK_UNIT, FEED_UNIT, METRICS_UNIT)
@@ -341,6 +355,7 @@ LIFE = [
     back_up_and_restore,
     change_the_table,
     clock_ran_ahead,
+    device_version,
     archive_end,
 ]
 STEPS = [try_it, install, *LIFE, upgrade, stays_down]

@@ -166,6 +166,12 @@ class Scenes(Failing):
         check(run == str(b"fault io\n"), "who can't keep the owner:", run)
         left = os.stat(self.device)
         check((left.st_uid, os.listdir(self.here)) == (0, ["plant.device"]), "who can't keep the owner leaves", left)
+        os.chown(self.device, NOBODY, 0)
+        run = as_user(NOBODY, NOBODY, [], lambda: self.upgrade("03").stderr)
+        check(run == str(b"fault io\n"), "who can't keep the group:", run)
+        os.chown(self.device, NOBODY, NOBODY)
+        run = as_user(NOBODY, NOBODY, [], lambda: self.upgrade("03").stdout)
+        check(run == str(b"upgraded 03 %d\n" % count), "the owner's own upgrade:", run)
         return "with other owners"
 
     def full_output(self, source: str, count: int) -> None:
