@@ -286,11 +286,12 @@ def summary(wrong, count):
     )
 
 
-def try_ways(writeback, gates, step):
-    """Goes the ways on each file system, in a short run some of them and those at gates. How many there were."""
+def try_ways(writeback, gates, first, step):
+    """Goes the ways on each file system, in a short run some of them, from one on, and those at gates. How many there
+    were."""
     ways, counts = writeback.ways(), {}
     for system in [name for name in SYSTEMS if shutil.which(SYSTEMS[name][1][0])]:
-        here = ways[::step] + gates if step > 1 else ways
+        here = ways[first::step] + gates if step > 1 else ways
         wrong = writeback.all(system, here)
         check(not wrong, system + ":", summary(wrong, len(here)))
         failures = next(writeback.failures)
@@ -329,14 +330,15 @@ def main():
     if missing():
         print("writeback: skipped, since there is no", ", ".join(missing()))
         sys.exit(SKIPPED)
-    program, step, folder = begin("writeback", sys.argv, 1, 9)
+    program, step, folder = begin("writeback", sys.argv, 1, 18)
     started = time.monotonic()
     counts = {}
     try:
         for version in VERSIONS:
             writeback = Writeback(program, os.path.join(folder, version), version)
             gates = [("desk", "fdatasync", at) for at in writeback.gates()]
-            ways = try_ways(writeback, gates, step)
+            # A short run tries others of each version.
+            ways = try_ways(writeback, gates, step // 2 * VERSIONS.index(version), step)
             # In a short run one version tries the cache and the script itself.
             if step == 1 or version == VERSIONS[0]:
                 ways |= try_cached(writeback, gates) | try_bodies(writeback, gates)
