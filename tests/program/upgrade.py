@@ -17,10 +17,9 @@ import os
 import shutil
 import subprocess
 import sys
-import time
 
 from lib.places import EXAMPLES
-from lib.program import Course, Fault, Wrong, as_user, begin, check, finish, run_words
+from lib.program import Course, Wrong, as_user, begin, check, finish, run_words
 from lib.summed_device import CLOSED, HEAD, HEADER, MARK_03, OPEN, SummedDevice
 
 from upgraded import NONE, Failing, answers, content
@@ -92,19 +91,33 @@ class Scenes(Failing):
         with open(self.device, "rb") as file:
             fcntl.flock(file, fcntl.LOCK_EX)
             self.refused(b"io", "a device in use")
-        held = Fault(self.library, "rename", 1, "held")
-        words = [self.program, "upgrade", self.device]
-        with subprocess.Popen(words, env={**os.environ, **held.loaded}, stdout=subprocess.PIPE) as process:
-            for _ in range(2000):
-                if held.was_met():
-                    break
-                time.sleep(0.01)
+        with self.held("rename", 1) as process:
             for word in ("desk", "show", "upgrade"):
                 run = run_words(self.program, [word, self.device])
                 check(run.stderr == b"fault io\n", word, "beside an upgrade", run)
-            held.forget()
-            said, _ = process.communicate(timeout=60)
-        check(process.returncode == 0 and said.startswith(b"upgraded 03 "), "an upgrade that was asked beside", said)
+        said = process.communicate(timeout=60)
+        check(process.returncode == 0 and said[0].startswith(b"upgraded 03 "), "an upgrade that was asked beside", said)
+
+    def replaced(self, source: str) -> None:
+        """While one is upgraded, another file gets its name, or a link the new one's: neither changes."""
+        self.put(source)
+        made = self.made("03")
+        opened = [call for call in made if call[0] == "openat"].index(("openat", "beside")) + 1
+        asked = sum(call[0] == "statx" for call in made)
+        other = os.path.join(self.folder, "other")
+        for call, at in (("openat", opened), ("statx", asked)):
+            self.put(source)
+            with open(other, "w", encoding="ascii") as file:
+                file.write("other")
+            with self.held(call, at) as process:
+                if call == "openat":
+                    os.symlink(other, self.beside)
+                else:
+                    os.replace(other, self.device)
+            said = process.communicate(timeout=60)
+            check(said == (b"", b"fault io\n"), "a name that changed at", call, "gave", said)
+            left = content(other if call == "openat" else self.device)
+            check(left == b"other" and not os.path.lexists(self.beside), "a name that changed at", call, "left", left)
 
     def no_device(self, source: str) -> None:
         """Bytes that aren't those of a whole device, and no file."""
@@ -212,6 +225,7 @@ def main() -> None:
         scenes.memory_fails(mid["02"])
         scenes.earlier()
         scenes.in_use(mid["02"])
+        scenes.replaced(mid["02"])
         scenes.no_device(mid["02"])
         scenes.in_the_way(mid["02"], count)
         owners = scenes.owner_stays(mid["02"], count)

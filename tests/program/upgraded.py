@@ -1,9 +1,11 @@
 """Runs of `upgrade`, and each call of one that fails, for upgrade.py."""
 import collections
+import contextlib
 import os
 import shutil
 import subprocess
-from typing import Optional
+import time
+from typing import Iterator, Optional
 
 from lib.calls import Layout, check_upgraded, on_device, read_calls
 from lib.program import QUERIES, Fault, check, counts, ends, preload, run_words
@@ -90,6 +92,19 @@ class Failing(Upgrades):
         calls = read_calls(path, self.device)
         os.remove(path)
         return calls
+
+    @contextlib.contextmanager
+    def held(self, call: str, at: int) -> Iterator[subprocess.Popen]:
+        """An upgrade that waits before this call, up to the end of the block."""
+        fault = Fault(self.library, call, at, "held")
+        words, loaded = [self.program, "upgrade", self.device], {**os.environ, **fault.loaded}
+        process = subprocess.Popen(words, env=loaded, stdout=subprocess.PIPE, stderr=subprocess.PIPE)
+        for _ in range(2000):
+            if fault.was_met():
+                break
+            time.sleep(0.01)
+        yield process
+        fault.forget()
 
     def faults(self, made: collections.Counter) -> list[Fault]:
         """Each call of a run, with each of its ways to fail; in a short run some of them."""

@@ -88,3 +88,5 @@ pub use io_faults::file_fault;
 pub use owned_endpoints::OwnedEndpoints;
 pub use program::{end_of, run_local, run_words};
 pub use serve_order::ServeOrder;
+pub use upgraded::Upgraded;
+pub use upgrading::run_upgrade;
