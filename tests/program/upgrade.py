@@ -41,15 +41,21 @@ def check_spelled(path: str, version: str, count: int) -> None:
     device = SummedDevice(path)
     is_summed = version == "03"
     closed = CLOSED if is_summed else 0
-    gates = [device.bytes[at] for at in (0, HEADER, device.begins, device.second)]
+    gates = [device.bytes[at] for at in (0, HEADER, device.journal(0), device.half(1))]
     check(gates == [OPEN, OPEN, closed, closed], version, "gates", gates)
     name = bytes(device.bytes[1:9])
     check(name == b"ALMSRV" + version.encode(), "the header's name is", name)
     check((name in EARLIER) != is_summed, "releases before 0.4.0 know", name)
     mark = MARK_03 if is_summed else MARK_02
-    said = (1).to_bytes(8, "big") + bytes([mark]) + count.to_bytes(7, "big")
-    said += device.sums_of(0) if is_summed else device.image.to_bytes(8, "big")
-    check(device.bytes[HEADER + 1 : HEADER + HEAD] == said, version, "head", device.bytes[HEADER : HEADER + HEAD])
+    head, said = device.bytes[HEADER + 1 : HEADER + HEAD], (1).to_bytes(8, "big") + bytes([mark]) + count.to_bytes(
+        7, "big"
+    )
+    if is_summed:
+        device.sum_half(0)
+        said += device.bytes[HEADER + 17 : HEADER + HEAD]
+    else:
+        said += device.image.to_bytes(8, "big")
+    check(head == said, version, "head", head)
 
 
 class Scenes(Failing):
@@ -71,7 +77,7 @@ class Scenes(Failing):
             check(answers(self.program, self.device) == before, version, "answers otherwise")
             course.goes_on(shutil.copyfile(self.device, mid[other] + ".on"), half, NONE)
         one, other = SummedDevice(mid["03"]), SummedDevice(self.device)
-        image = slice(HEADER + HEAD, one.begins)
+        image = slice(one.image_at(0), one.journal(0))
         check(one.bytes[image] == other.bytes[image], "the image of 02 is another one than that of 03")
         return mid
 
