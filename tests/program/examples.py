@@ -219,8 +219,8 @@ def main():
         "examples",
         folder,
         (
-            f"{len(found)} examples, {blocks} blocks of a page, its own words, the refinery, {len(FAULTS)} faults of tables,"
-            f" and {len(ALONE)} words of a switch"
+            f"{len(found)} examples, {blocks} blocks of a page, its own words, the refinery,"
+            f" {len(FAULTS)} faults of tables, and {len(ALONE)} words of a switch"
         ),
     )
 

@@ -19,7 +19,8 @@ class PageScene(Scene):
 
     count = 40
     setup = (
-        "alm_server format plant.device /tmp/plant.toml --version {version} > /tmp/said && alm_server desk plant.device < /tmp/stored >"
+        "alm_server format plant.device /tmp/plant.toml --version {version} > /tmp/said"
+        " && alm_server desk plant.device < /tmp/stored >"
         " /tmp/said2 && sync . && guest mark $LOG ready && sync && bash -e /tmp/block && cat /tmp/desked && [ $(cat"
         " /tmp/desked) = 0 ]"
     )

@@ -121,8 +121,8 @@ class Holes(Scene):
     """A device that was copied with holes."""
 
     setup = (
-        "alm_server format full.device /tmp/plant.toml --version {version} > /tmp/said && guest holes full.device plant.device && guest"
-        " mark $LOG ready"
+        "alm_server format full.device /tmp/plant.toml --version {version} > /tmp/said"
+        " && guest holes full.device plant.device && guest mark $LOG ready"
     )
 
     def judge_made(self, now):
