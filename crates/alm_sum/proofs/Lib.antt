@@ -1,4 +1,5 @@
 pub mod Bytes
 pub mod Changes
+pub mod Eights
 pub mod Packed
 pub mod Shifts

@@ -18,7 +18,7 @@ eights zero c = c
 eights (suc n) c = eights n (shifts 8 c)
 
 -- what comes after eight shifts could have come before them, higher
-pull : (x m : ℕ) → bit_xor (shifts 8 x) m ≡ shifts 8 (bit_xor x (m * 256))
+pub pull : (x m : ℕ) → bit_xor (shifts 8 x) m ≡ shifts 8 (bit_xor x (m * 256))
 pull x m = ap (bit_xor (shifts 8 x)) (sym (eight_up m)) ∙ sym (shifts_linear 8 x (m * 256))
 
 pub together : (c : ℕ) (bytes : List ℕ) → register_after_bytes c bytes ≡ eights (length bytes) (bit_xor c (packed bytes))

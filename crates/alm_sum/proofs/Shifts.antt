@@ -102,20 +102,25 @@ byte_step c byte lt =
     ∙ shifts_linear 8 (c / 256 * 256) (bit_xor (c % 256) byte)
     ∙ ap (λ x. bit_xor x (shifts 8 (bit_xor (c % 256) byte))) (eight_up (c / 256))
 
--- ---- the table
+-- ---- the tables
 
--- the remainders of n numbers from a first one on
-unfoldable pub remainders : ℕ → ℕ → List ℕ
-remainders zero from = []
-remainders (suc n) from = shifts 8 from ∷ remainders n (suc from)
+-- what shifts make of n numbers from a first one on
+unfoldable pub remainders : ℕ → ℕ → ℕ → List ℕ
+remainders bits zero from = []
+remainders bits (suc n) from = shifts bits from ∷ remainders bits n (suc from)
 
-pub remainder_at : (n from i : ℕ) → i < n → get_or (remainders n from) i 0 ≡ shifts 8 (i + from)
+remainder_at : (bits n from i : ℕ) → i < n → get_or (remainders bits n from) i 0 ≡ shifts bits (i + from)
 unfolding remainders
-remainder_at zero from i lt = absurd (omega (arith, lt))
-remainder_at (suc n) from zero lt = let first : from ≡ 0 + from = omega arith in ap (shifts 8) first
-remainder_at (suc n) from (suc i) lt =
+remainder_at bits zero from i lt = absurd (omega (arith, lt))
+remainder_at bits (suc n) from zero lt = let first : from ≡ 0 + from = omega arith in ap (shifts bits) first
+remainder_at bits (suc n) from (suc i) lt =
     let next : i + suc from ≡ suc i + from = omega arith in
-    remainder_at n (suc from) i (omega (arith, lt)) ∙ ap (shifts 8) next
+    remainder_at bits n (suc from) i (omega (arith, lt)) ∙ ap (shifts bits) next
+
+pub looked_up : (bits : ℕ) (table : List ℕ) (byte : ℕ) → byte < 256 → table ≡ remainders bits 256 0 → get_or table byte 0 ≡ shifts bits byte
+looked_up bits table byte lt is =
+    let zero_more : byte + 0 ≡ byte = omega arith in
+    ap (λ (l : List ℕ). get_or l byte 0) is ∙ remainder_at bits 256 0 byte lt ∙ ap (shifts bits) zero_more
 
 -- ---- bytes one after the other
 

@@ -9,8 +9,9 @@
 //! lowest bit on, and is inverted at the end. Bytes that come in pieces go into one register after the other. The checksum of
 //! the text `123456789` is E3069283.
 //!
-//! What is used above: the checksum is that of the definition in specs/Crc, which divides bit by bit; this crate looks it up in
-//! a table. Of two texts that differ within four neighbouring bytes alone the checksums differ. Not covered: texts that differ in
+//! What is used above: the checksum is that of the definition in specs/Crc, which divides bit by bit. This crate looks up eight
+//! bytes at once, in eight tables of 1 KiB each, and the up to seven bytes after these one by one, in the first table. Of two
+//! texts that differ within four neighbouring bytes alone the checksums differ. Not covered: texts that differ in
 //! more places, or in length; these may have one checksum. It is no signature: whoever changes a text can make its checksum too.
 //!
 //! It is for the texts of version 03 in `alm_codec` and `alm_checkpoint`. No call here takes memory.
@@ -22,6 +23,6 @@
 
 pub mod laws;
 mod register;
-mod table;
+mod tables;
 
 pub use register::{START, checksum, register_after};

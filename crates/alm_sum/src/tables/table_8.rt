@@ -1,4 +1,4 @@
-//! What is looked up: the remainders of the 256 bytes.
+//! What eight shifts make of each of the 256 bytes.
 
 ghost use Rattle.std.specs.Prelude.{◌≡◌};
 ghost use Rattle.alm_sum.specs.Crc.{shifts};
@@ -39,7 +39,7 @@ const TABLE: [u32; 256] = [
 ];
 
 /// What eight shifts make of a register that holds one byte.
-pub fn remainder(byte: u8) -> u32
+pub fn shifted_8(byte: u8) -> u32
     ensures { result ≡ shifts 8 byte }
 {
     TABLE[byte as usize]
