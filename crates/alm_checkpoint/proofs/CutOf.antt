@@ -19,12 +19,12 @@ use Rattle.alm_checkpoint.specs.declared.device_fault.DeviceFault.TheVariants.{U
 use Rattle.alm_checkpoint.specs.declared.no_choice.NoChoice.TheVariants.{EqualEpochs}
 use Rattle.alm_checkpoint.specs.declared.half.Half.{Half}
 use Rattle.alm_checkpoint.specs.declared.half.Half.TheVariants.{First, Second}
-use Rattle.alm_checkpoint.specs.Layouts.{layout_byte, is_header_open, part, other, header_len, head_len, half_len, half_at, image_at, segment_at, image_size, device_len, is_segment, half_number}
+use Rattle.alm_checkpoint.specs.Layouts.{layout_byte, is_header_open, is_half_open, part, other, header_len, head_len, half_len, half_at, image_at, segment_at, image_size, device_len, is_segment, half_number}
 use Rattle.alm_checkpoint.specs.Headers.{header, half_head, header_text, half_head_text, image_sum, IsHeadOf}
 use Rattle.alm_checkpoint.specs.Opening.{Opened, opened_half, ◌>>=◌, rule, read_to, gate_in, epoch_in, choice, or_fault, layout_from, layout_in, head_by, head_of, chosen_from, half_head_from, beside_from, heads_from, heads_in, opened_in}
 use Rattle.alm_checkpoint.specs.Standing.{Stands, Spells, gate_place, end_of}
 use Rattle.alm_checkpoint.specs.Cut.{Cut, IsCut, IsLayout, Stores, IsBelow, Reaches, before, behind, front, back, device_of, head_before}
-use Rattle.alm_checkpoint.proofs.HeaderLaws.{header_is, head_is, head_long, gates_same}
+use Rattle.alm_checkpoint.proofs.HeaderLaws.{header_is, head_is, head_long}
 use Rattle.alm_checkpoint.proofs.Grown.{gate_at}
 use Rattle.alm_checkpoint.proofs.Pieces.{gate_short, epoch_short}
 use Rattle.alm_checkpoint.proofs.Shown.{head_is as one_head}
@@ -94,8 +94,8 @@ layout_is device l fits e =
 -- ---- the half that stands
 
 record IsChosen (device : List ℕ) (l : Layout) (h : Half) : Type 0 where
-  gate : gate_in l.version (head_of l h device) ≡ true
-  below : (gate_in l.version (head_of l (other h) device) ≡ false) ⊎ (epoch_in (head_of l (other h) device) < epoch_in (head_of l h device))
+  gate : gate_in (head_of l h device) ≡ true
+  below : (gate_in (head_of l (other h) device) ≡ false) ⊎ (epoch_in (head_of l (other h) device) < epoch_in (head_of l h device))
 
 abbrev Choices : Layout → Half → (b d : Bool) (e f : ℕ) → Type 0
 Choices l First b d e f = (b ≡ true) × ((d ≡ false) ⊎ (f < e))
@@ -117,10 +117,10 @@ choice_is l h true true e f r = both_open l h e f (eqb e f) (ltb e f) refl refl 
 
 chosen_is : (device : List ℕ) (l : Layout) (h : Half) → chosen_from l (head_of l First device) (head_of l Second device) ≡ Ok h → IsChosen device l h
 chosen_is device l First e =
-    let c = choice_is l First (gate_in l.version (head_of l First device)) (gate_in l.version (head_of l Second device)) (epoch_in (head_of l First device)) (epoch_in (head_of l Second device)) e in
+    let c = choice_is l First (gate_in (head_of l First device)) (gate_in (head_of l Second device)) (epoch_in (head_of l First device)) (epoch_in (head_of l Second device)) e in
     record { gate = c.0; below = c.1 }
 chosen_is device l Second e =
-    let c = choice_is l Second (gate_in l.version (head_of l First device)) (gate_in l.version (head_of l Second device)) (epoch_in (head_of l First device)) (epoch_in (head_of l Second device)) e in
+    let c = choice_is l Second (gate_in (head_of l First device)) (gate_in (head_of l Second device)) (epoch_in (head_of l First device)) (epoch_in (head_of l Second device)) e in
     record { gate = c.0; below = c.1 }
 
 -- ---- its head
@@ -194,7 +194,7 @@ pub record CutOf (device : List ℕ) (epoch : ℕ) (plant : Condensed) (o : Open
   pub of_epoch : cut.epoch ≡ epoch
   pub of_base : cut.base ≡ base
   -- the other half's gate
-  pub of_other : gate_in o.layout.version (head_of o.layout (other o.half) device) ≡ is_open o.layout.version (layout_byte cut.other 0)
+  pub of_other : gate_in (head_of o.layout (other o.half) device) ≡ is_half_open (layout_byte cut.other 0)
 
 head_short : (l : Layout) (h : Half) (device : List ℕ) → head_of l h device ≡ take 25 (half_bytes l h device)
 head_short l h device = sym (take-take 25 (half_len l) (drop (half_at l h) device) (omega arith))
@@ -227,7 +227,7 @@ heads_are device l h t e =
 below_is : (device : List ℕ) (l : Layout) (h : Half) (t : HalfHead) → IsChosen device l h → IsTold device l h t → beside_from l (other h) (head_of l (other h) device) ≡ Ok tt → IsBelow l (other h) t.epoch (half_bytes l (other h) device)
 below_is device l h t c m whole =
     let beside : List ℕ = half_bytes l (other h) device in
-    let gate : gate_in l.version (head_of l (other h) device) ≡ gate_in l.version beside = ap (gate_in l.version) (head_short l (other h) device) ∙ gate_short l.version beside in
+    let gate : gate_in (head_of l (other h) device) ≡ gate_in beside = ap gate_in (head_short l (other h) device) ∙ gate_short beside in
     let epoch : epoch_in (head_of l (other h) device) ≡ epoch_in beside = ap epoch_in (head_short l (other h) device) ∙ epoch_short beside in
     let mine : epoch_in (head_of l h device) ≡ t.epoch = ap epoch_in m.mark ∙ from_be_bytes-to_be_bytes_8 t.epoch m.is.epoch in
     record {
@@ -236,7 +236,7 @@ below_is device l h t c m whole =
     }
 
 abbrev cut_here : (device : List ℕ) (l : Layout) (h : Half) (t : HalfHead) (base : Condensed) (frames : List Frame) → Cut
-cut_here device l h t base frames = record { layout = l; half = h; version = t.version; half_gate = layout_byte (head_of l h device) 0; epoch = t.epoch; base = base; frames = frames; other = half_bytes l (other h) device; rest = rest_bytes l device }
+cut_here device l h t base frames = record { layout = l; half = h; version = t.version; epoch = t.epoch; base = base; frames = frames; other = half_bytes l (other h) device; rest = rest_bytes l device }
 
 regroup_half : (s m i f g e : List ℕ) → s ++ (m ++ i ++ (f ++ g)) ++ e ≡ s ++ (m ++ i ++ f) ++ g ++ e
 regroup_half s m i f g e = simp append_assoc
@@ -258,24 +258,24 @@ cut_at device l h t base plant left fits e_layout e_heads spells folds =
     let start : List ℕ = 165 ∷ header_text l ++ before h c.other in
     let own : ℕ = layout_byte (head_of l h device) 0 in
     let text : List ℕ = frames_text t.version t.epoch base.panel.count f.frames in
-    let half : half_bytes l h device ≡ (own ∷ half_head_text l h head) ++ image_text base ++ (text ++ f.gate ∷ f.tail) =
+    let half : half_bytes l h device ≡ (165 ∷ half_head_text l h head) ++ image_text base ++ (text ++ f.gate ∷ f.tail) =
     half_parts l h device
     ∙ ap (λ (m : List ℕ). m ++ part (image_at l h) (image_size l) device ++ segment) tl.mark
     ∙ ap (λ (k : HalfHead). (own ∷ half_head_text l h k) ++ part (image_at l h) (image_size l) device ++ segment) same_head
     ∙ ap (λ (i : List ℕ). (own ∷ half_head_text l h head) ++ i ++ segment) spells.image.text
-    ∙ ap (λ (s : List ℕ). (own ∷ half_head_text l h head) ++ image_text base ++ s) f.parts in
+    ∙ ap (λ (s : List ℕ). (own ∷ half_head_text l h head) ++ image_text base ++ s) f.parts
+    ∙ ap (λ (g : ℕ). (g ∷ half_head_text l h head) ++ image_text base ++ (text ++ f.gate ∷ f.tail)) (eqb-true own 165 ch.gate) in
     let shown : device ≡ device_of c (f.gate ∷ f.tail) =
     in_order l h device
     ∙ ap (λ (s : List ℕ). (s ++ before h c.other) ++ half_bytes l h device ++ back c) hd.start
     ∙ ap (λ (b : List ℕ). start ++ b ++ back c) half
-    ∙ regroup_half start (own ∷ half_head_text l h head) (image_text base) text (f.gate ∷ f.tail) (back c) in
+    ∙ regroup_half start (165 ∷ half_head_text l h head) (image_text base) text (f.gate ∷ f.tail) (back c) in
     let long : length segment ≡ l.segment = length-take-le l.segment (drop (segment_at l h) device) (omega (arith, length-drop (segment_at l h) device, half_fits l h device hd.size)) in
     let reaches : Reaches c (f.gate ∷ f.tail) = sym (ap length f.parts ∙ length-append text (f.gate ∷ f.tail)) ∙ long in
     let beside : length c.other ≡ half_len l = length-take-le (half_len l) (drop (half_at l (other h)) device) (omega (arith, length-drop (half_at l (other h)) device, half_fits l (other h) device hd.size)) in
     let stores : Stores c plant = record {
       layout = hd.limits;
       version = tl.is.allowed;
-      opened = sym (gates_same l.version t.version own tl.is.allowed) ∙ ch.gate;
       epoch = tl.is.epoch;
       image = record { rules = spells.image.rules; fits = spells.image.fits; text = refl };
       sizes = record { by_rows = spells.sizes.by_rows; by_areas = spells.sizes.by_areas; by_count = refl };
@@ -302,8 +302,16 @@ cut_at device l h t base plant left fits e_layout e_heads spells folds =
       of_version = refl;
       of_epoch = refl;
       of_base = refl;
-      of_other = ap (gate_in l.version) (head_short l (other h) device) ∙ gate_short l.version (half_bytes l (other h) device);
+      of_other = ap gate_in (head_short l (other h) device) ∙ gate_short (half_bytes l (other h) device);
     }
+
+-- the layout of a device that opens
+pub layout_of : (device : List ℕ) (o : Opened) → opened_in device ≡ Ok o → layout_in device ≡ Ok o.layout
+unfolding opened_in
+layout_of device o opens =
+    let a = bind_ok (layout_in device) (λ l. heads_in l device >>= λ x. Ok (opened_half l x.0 x.1 device)) o opens in
+    let b = bind_ok (heads_in a.0 device) (λ x. Ok (opened_half a.0 x.0 x.1 device)) o a.2 in
+    a.1 ∙ ap (λ (x : Opened). Ok x.layout) (fine_is (opened_half a.0 b.0.0 b.0.1 device) o b.2)
 
 -- what a device encodes is cut so
 pub cut_of : (device : List ℕ) (epoch : ℕ) (plant : Condensed) (s : Stands device epoch plant) → IsBytes device → CutOf device epoch plant s.opened s.base s.left

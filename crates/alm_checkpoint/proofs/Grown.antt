@@ -35,7 +35,7 @@ regroup s m i f x t e = simp append_assoc
 pub pushes : (c : Cut) (plant : Condensed) (f : Frame) (tail : List ℕ) → Stores c plant → device_of c (f.gate ∷ frame_text c.version c.epoch (plant.panel.count + 1) f.asked ++ tail) ≡ device_of (with_frame c f) tail
 pushes c plant f tail s =
     let start : List ℕ = 165 ∷ header_text c.layout ++ before c.half c.other in
-    let mark : List ℕ = c.half_gate ∷ half_head_text c.layout c.half (head_before c.version c.epoch c.base) in
+    let mark : List ℕ = 165 ∷ half_head_text c.layout c.half (head_before c.version c.epoch c.base) in
     regroup start mark (image_text c.base) (frames_text c.version c.epoch c.base.panel.count c.frames) (f.gate ∷ frame_text c.version c.epoch (plant.panel.count + 1) f.asked) tail (back c)
     ∙ ap (λ (text : List ℕ). start ++ (mark ++ image_text c.base ++ text) ++ tail ++ back c) (pushed_text c plant f s)
 
@@ -53,7 +53,6 @@ pub stores_pushed : (c : Cut) (plant : Condensed) (f : Frame) → Stores c plant
 stores_pushed c plant f s opened one borne admitted = record {
   layout = s.layout;
   version = s.version;
-  opened = s.opened;
   epoch = s.epoch;
   image = s.image;
   sizes = s.sizes;
@@ -80,5 +79,5 @@ gate_at c plant tail s reaches =
     omega (
       arith,
       reaches,
-      front_length c.layout c.half (c.half_gate ∷ half_head_text c.layout c.half (head_before c.version c.epoch c.base)) (image_text c.base) (frames_text c.version c.epoch c.base.panel.count c.frames) c.other (ap suc (head_long c.layout c.half (head_before c.version c.epoch c.base))) (image_is_long c.layout c.base s.sizes s.image) s.size,
+      front_length c.layout c.half (165 ∷ half_head_text c.layout c.half (head_before c.version c.epoch c.base)) (image_text c.base) (frames_text c.version c.epoch c.base.panel.count c.frames) c.other (ap suc (head_long c.layout c.half (head_before c.version c.epoch c.base))) (image_is_long c.layout c.base s.sizes s.image) s.size,
     )

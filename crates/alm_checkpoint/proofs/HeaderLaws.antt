@@ -8,7 +8,6 @@ use Rattle.std.proofs.lemmas.Option.{same_Some, none-some}
 use Rattle.std.proofs.lemmas.List.{append-nil}
 use Rattle.alm_codec.specs.declared.version.Version.{Version}
 use Rattle.alm_codec.specs.declared.version.Version.TheVariants.{V01, V02, V03}
-use Rattle.alm_codec.specs.Versions.{is_open}
 use Rattle.alm_codec.proofs.Bytes.{chosen}
 use Rattle.alm_codec.specs.Format.{Format, number_field, raw, tested_field, both}
 use Rattle.alm_codec.specs.Reading.{IsBytes}
@@ -332,17 +331,3 @@ head_long l h t =
     end_long V01 = refl
     end_long V02 = refl
     end_long V03 = refl
-
--- ---- gates
-
--- a half has the gates of its header
-pub gates_same : (header half : Version) (gate : ℕ) → allows header half ≡ true → is_open header gate ≡ is_open half gate
-gates_same V01 V01 gate allowed = refl
-gates_same V01 V02 gate allowed = refl
-gates_same V01 V03 gate allowed = absurd cc
-gates_same V02 V01 gate allowed = absurd cc
-gates_same V02 V02 gate allowed = refl
-gates_same V02 V03 gate allowed = absurd cc
-gates_same V03 V01 gate allowed = absurd cc
-gates_same V03 V02 gate allowed = absurd cc
-gates_same V03 V03 gate allowed = refl

@@ -1,14 +1,14 @@
 -- Other open gates change nothing.
-use Rattle.std.proofs.Common.{◌≡◌, ℕ, ◌+◌, true, List, [], ◌∷◌, ◌++◌, length, refl, sym, ◌∙◌, ap, subst}
+use Rattle.std.proofs.Common.{◌≡◌, ℕ, ◌+◌, List, [], ◌∷◌, ◌++◌, length, refl, sym, ◌∙◌, ap, subst}
 use Rattle.alm_codec.specs.declared.asked.Asked.{Asked}
 use Rattle.alm_model.specs.Plant.{Condensed}
 use Rattle.alm_model.specs.Step.{run}
 use Rattle.alm_model.specs.Rules.{AreAdmitted}
 use Rattle.alm_codec.specs.declared.version.Version.{Version}
-use Rattle.alm_codec.specs.Versions.{AreBorne, is_open}
+use Rattle.alm_codec.specs.Versions.{AreBorne}
 use Rattle.alm_codec.specs.Frames.{IsFrame, asked_actions}
 use Rattle.alm_segment.specs.Texts.{Frame, AreFrames, actions_in}
-use Rattle.alm_checkpoint.specs.Cut.{Cut, Stores, OtherGates, with_gates}
+use Rattle.alm_checkpoint.specs.Cut.{Cut, Stores, OtherGates, with_frames}
 
 same_actions : (version : Version) (frames others : List Frame) → OtherGates version frames others → actions_in others ≡ actions_in frames
 same_actions version [] [] h = refl
@@ -26,13 +26,12 @@ are_frames version epoch count (f ∷ frames) (g ∷ others) are h = (
   subst (λ (list : List Asked). AreFrames version epoch (count + length list) others) (sym h.0) (are_frames version epoch (count + length f.asked) frames others are.2 h.2),
 )
 
-pub stores_gates : (c : Cut) (plant : Condensed) (gate : ℕ) (frames : List Frame) → Stores c plant → is_open c.version gate ≡ true → OtherGates c.version c.frames frames → Stores (with_gates c gate frames) plant
-stores_gates c plant gate frames s opened h =
+pub stores_gates : (c : Cut) (plant : Condensed) (frames : List Frame) → Stores c plant → OtherGates c.version c.frames frames → Stores (with_frames c frames) plant
+stores_gates c plant frames s h =
     let same : actions_in frames ≡ actions_in c.frames = same_actions c.version c.frames frames h in
     record {
       layout = s.layout;
       version = s.version;
-      opened = opened;
       epoch = s.epoch;
       image = s.image;
       sizes = s.sizes;

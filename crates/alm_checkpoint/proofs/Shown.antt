@@ -15,12 +15,12 @@ use Rattle.alm_checkpoint.specs.declared.layout.Layout.{Layout}
 use Rattle.alm_checkpoint.specs.declared.half_head.HalfHead.{HalfHead}
 use Rattle.alm_checkpoint.specs.declared.half.Half.{Half}
 use Rattle.alm_checkpoint.specs.declared.half.Half.TheVariants.{First, Second}
-use Rattle.alm_checkpoint.specs.Layouts.{part, other, header_len, head_len, half_len, half_at, image_at, segment_at, image_size, device_len, is_segment, half_number}
+use Rattle.alm_checkpoint.specs.Layouts.{is_half_open, part, other, header_len, head_len, half_len, half_at, image_at, segment_at, image_size, device_len, is_segment, half_number}
 use Rattle.alm_checkpoint.specs.Headers.{header_text, half_head_text, image_sum, IsSum, IsHeadOf}
 use Rattle.alm_checkpoint.specs.Opening.{Opened, opened_half, ◌>>=◌, read_to, gate_in, epoch_in, choice, or_fault, layout_from, layout_in, head_by, head_of, chosen_from, half_head_from, beside_from, heads_from, heads_in, opened_in}
 use Rattle.alm_checkpoint.specs.Standing.{Stands}
 use Rattle.alm_checkpoint.specs.Cut.{Cut, IsLayout, Stores, IsBelow, Reaches, before, behind, device_of, head_before}
-use Rattle.alm_checkpoint.proofs.HeaderLaws.{SuitsDevice, header_reads, head_reads, head_long, gates_same}
+use Rattle.alm_checkpoint.proofs.HeaderLaws.{SuitsDevice, header_reads, head_reads, head_long}
 use Rattle.alm_checkpoint.proofs.Pieces.{part_is, part_of, gate_short, epoch_short, chosen_first, chosen_second}
 
 abbrev start_text : Layout → List ℕ
@@ -129,29 +129,29 @@ epoch_again : (g : ℕ) (l : Layout) (h : Half) (t : HalfHead) → t.epoch < 2 ^
 epoch_again g l h t lt = from_be_bytes-to_be_bytes_8 t.epoch lt
 
 -- the head of the other half says what that half says
-gate_beside : (device beside : List ℕ) (l : Layout) (h : Half) → head_of l h device ≡ take 25 beside → gate_in l.version (head_of l h device) ≡ gate_in l.version beside
-gate_beside device beside l h e = ap (gate_in l.version) e ∙ gate_short l.version beside
+gate_beside : (device beside : List ℕ) (l : Layout) (h : Half) → head_of l h device ≡ take 25 beside → gate_in (head_of l h device) ≡ gate_in beside
+gate_beside device beside l h e = ap gate_in e ∙ gate_short beside
 
 epoch_beside : (device beside : List ℕ) (l : Layout) (h : Half) → head_of l h device ≡ take 25 beside → epoch_in (head_of l h device) ≡ epoch_in beside
 epoch_beside device beside l h e = ap epoch_in e ∙ epoch_short beside
 
-chosen : (device : List ℕ) (g : ℕ) (l : Layout) (h : Half) (t : HalfHead) (image segment beside : List ℕ) → Laid device g l h t image segment beside → is_open l.version g ≡ true → t.epoch < 2 ^ 64 → (gate_in l.version beside ≡ false) ⊎ (epoch_in beside < t.epoch) → chosen_from l (head_of l First device) (head_of l Second device) ≡ Ok h
+chosen : (device : List ℕ) (g : ℕ) (l : Layout) (h : Half) (t : HalfHead) (image segment beside : List ℕ) → Laid device g l h t image segment beside → is_half_open g ≡ true → t.epoch < 2 ^ 64 → (gate_in beside ≡ false) ⊎ (epoch_in beside < t.epoch) → chosen_from l (head_of l First device) (head_of l Second device) ≡ Ok h
 chosen device g l First t image segment beside d opened lt below =
-    let gate : gate_in l.version (head_of l First device) ≡ true = ap (gate_in l.version) d.mark ∙ opened in
+    let gate : gate_in (head_of l First device) ≡ true = ap gate_in d.mark ∙ opened in
     let mine : epoch_in (head_of l First device) ≡ t.epoch = ap epoch_in d.mark ∙ epoch_again g l First t lt in
-    ap (λ (b : Bool). or_fault l (choice b (gate_in l.version (head_of l Second device)) (epoch_in (head_of l First device)) (epoch_in (head_of l Second device)))) gate
+    ap (λ (b : Bool). or_fault l (choice b (gate_in (head_of l Second device)) (epoch_in (head_of l First device)) (epoch_in (head_of l Second device)))) gate
     ∙ ap (λ (b : Bool). or_fault l (choice true b (epoch_in (head_of l First device)) (epoch_in (head_of l Second device)))) (gate_beside device beside l Second d.next)
-    ∙ ap (λ (e : ℕ). or_fault l (choice true (gate_in l.version beside) e (epoch_in (head_of l Second device)))) mine
-    ∙ ap (λ (e : ℕ). or_fault l (choice true (gate_in l.version beside) t.epoch e)) (epoch_beside device beside l Second d.next)
-    ∙ ap (or_fault l) (chosen_first (gate_in l.version beside) t.epoch (epoch_in beside) below)
+    ∙ ap (λ (e : ℕ). or_fault l (choice true (gate_in beside) e (epoch_in (head_of l Second device)))) mine
+    ∙ ap (λ (e : ℕ). or_fault l (choice true (gate_in beside) t.epoch e)) (epoch_beside device beside l Second d.next)
+    ∙ ap (or_fault l) (chosen_first (gate_in beside) t.epoch (epoch_in beside) below)
 chosen device g l Second t image segment beside d opened lt below =
-    let gate : gate_in l.version (head_of l Second device) ≡ true = ap (gate_in l.version) d.mark ∙ opened in
+    let gate : gate_in (head_of l Second device) ≡ true = ap gate_in d.mark ∙ opened in
     let mine : epoch_in (head_of l Second device) ≡ t.epoch = ap epoch_in d.mark ∙ epoch_again g l Second t lt in
-    ap (λ (b : Bool). or_fault l (choice (gate_in l.version (head_of l First device)) b (epoch_in (head_of l First device)) (epoch_in (head_of l Second device)))) gate
+    ap (λ (b : Bool). or_fault l (choice (gate_in (head_of l First device)) b (epoch_in (head_of l First device)) (epoch_in (head_of l Second device)))) gate
     ∙ ap (λ (b : Bool). or_fault l (choice b true (epoch_in (head_of l First device)) (epoch_in (head_of l Second device)))) (gate_beside device beside l First d.next)
-    ∙ ap (λ (e : ℕ). or_fault l (choice (gate_in l.version beside) true (epoch_in (head_of l First device)) e)) mine
-    ∙ ap (λ (e : ℕ). or_fault l (choice (gate_in l.version beside) true e t.epoch)) (epoch_beside device beside l First d.next)
-    ∙ ap (or_fault l) (chosen_second (gate_in l.version beside) (epoch_in beside) t.epoch below)
+    ∙ ap (λ (e : ℕ). or_fault l (choice (gate_in beside) true (epoch_in (head_of l First device)) e)) mine
+    ∙ ap (λ (e : ℕ). or_fault l (choice (gate_in beside) true e t.epoch)) (epoch_beside device beside l First d.next)
+    ∙ ap (or_fault l) (chosen_second (gate_in beside) (epoch_in beside) t.epoch below)
 
 pub suited : (size : ℕ) (l : Layout) → IsLayout l → device_len l ≤ size → SuitsDevice size l
 suited size l limits long = record {
@@ -184,7 +184,7 @@ head_is l device First = refl
 head_is l device Second = refl
 
 -- both heads
-heads_again : (device : List ℕ) (g : ℕ) (l : Layout) (h : Half) (t : HalfHead) (image segment beside : List ℕ) → Laid device g l h t image segment beside → is_open l.version g ≡ true → IsLayout l → IsHeadOf l t → IsBelow l (other h) t.epoch beside → heads_in l device ≡ Ok (h, t)
+heads_again : (device : List ℕ) (g : ℕ) (l : Layout) (h : Half) (t : HalfHead) (image segment beside : List ℕ) → Laid device g l h t image segment beside → is_half_open g ≡ true → IsLayout l → IsHeadOf l t → IsBelow l (other h) t.epoch beside → heads_in l device ≡ Ok (h, t)
 unfolding heads_from
 heads_again device g l h t image segment beside d gate limits is below =
     let first : List ℕ = head_of l First device in
@@ -195,7 +195,7 @@ heads_again device g l h t image segment beside d gate limits is below =
     ∙ ap (λ (b : List ℕ). beside_from l (other h) b >>= λ _. Ok (h, t)) (head_is l device (other h) ∙ d.next)
     ∙ ap (λ r. r >>= λ _. Ok (h, t)) below.whole
 
-pub opened : (device : List ℕ) (g : ℕ) (l : Layout) (h : Half) (t : HalfHead) (image segment beside : List ℕ) → Laid device g l h t image segment beside → is_open l.version g ≡ true → IsLayout l → IsHeadOf l t → IsBelow l (other h) t.epoch beside
+pub opened : (device : List ℕ) (g : ℕ) (l : Layout) (h : Half) (t : HalfHead) (image segment beside : List ℕ) → Laid device g l h t image segment beside → is_half_open g ≡ true → IsLayout l → IsHeadOf l t → IsBelow l (other h) t.epoch beside
     → opened_in device ≡ Ok (record { layout = l; half = h; head = t; image = image; segment = segment })
 unfolding opened_in
 opened device g l h t image segment beside d gate limits is below =
@@ -218,9 +218,15 @@ head_fits c plant s = record { epoch = s.epoch; allowed = s.version; count = s.c
 
 pub shown_opens : (c : Cut) (plant : Condensed) (tail : List ℕ) → Stores c plant → Reaches c tail → opened_in (device_of c tail) ≡ Ok (shown c tail)
 shown_opens c plant tail s reaches =
-    opened (device_of c tail) c.half_gate c.layout c.half (head_before c.version c.epoch c.base) (image_text c.base) (frames_text c.version c.epoch c.base.panel.count c.frames ++ tail) c.other
-    (laid c.half_gate c.layout c.half (head_before c.version c.epoch c.base) (image_text c.base) (frames_text c.version c.epoch c.base.panel.count c.frames) tail c.other c.rest (image_is_long c.layout c.base s.sizes s.image) reaches s.size)
-    (gates_same c.layout.version c.version c.half_gate s.version ∙ s.opened) s.layout (head_fits c plant s) s.below
+    opened (device_of c tail) 165 c.layout c.half (head_before c.version c.epoch c.base) (image_text c.base) (frames_text c.version c.epoch c.base.panel.count c.frames ++ tail) c.other
+    (laid 165 c.layout c.half (head_before c.version c.epoch c.base) (image_text c.base) (frames_text c.version c.epoch c.base.panel.count c.frames) tail c.other c.rest (image_is_long c.layout c.base s.sizes s.image) reaches s.size)
+    refl s.layout (head_fits c plant s) s.below
+
+-- .. beside the other half
+pub shown_beside : (c : Cut) (plant : Condensed) (tail : List ℕ) → Stores c plant → Reaches c tail → gate_in (head_of c.layout (other c.half) (device_of c tail)) ≡ gate_in c.other
+shown_beside c plant tail s reaches =
+    gate_beside (device_of c tail) c.other c.layout (other c.half)
+    (laid 165 c.layout c.half (head_before c.version c.epoch c.base) (image_text c.base) (frames_text c.version c.epoch c.base.panel.count c.frames) tail c.other c.rest (image_is_long c.layout c.base s.sizes s.image) reaches s.size).next
 
 pub stands : (c : Cut) (plant : Condensed) (gate : ℕ) (tail : List ℕ) → Stores c plant → is_open c.version gate ≡ false → Reaches c (gate ∷ tail) → Stands (device_of c (gate ∷ tail)) c.epoch plant
 stands c plant gate tail s shut reaches = record {

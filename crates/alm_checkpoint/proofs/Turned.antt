@@ -8,7 +8,7 @@ use Rattle.alm_model.specs.Rules.{KeepsRules, AreAdmitted}
 use Rattle.alm_model.proofs.Kept.{run-keeps}
 use Rattle.alm_codec.specs.declared.version.Version.{Version}
 use Rattle.alm_codec.specs.declared.version.Version.TheVariants.{V01, V02, V03}
-use Rattle.alm_codec.specs.Versions.{is_open, newer}
+use Rattle.alm_codec.specs.Versions.{newer}
 use Rattle.alm_codec.specs.Image.{IsImageText, IsOf, image_text}
 use Rattle.alm_codec.proofs.Full.{newer_bears}
 use Rattle.alm_segment.specs.Texts.{Frame, frames_text, AreFrames, actions_in}
@@ -51,7 +51,6 @@ pub stores_other : (c : Cut) (plant : Condensed) (bytes : List ℕ) → Stores c
 stores_other c plant bytes s size below = record {
   layout = s.layout;
   version = s.version;
-  opened = s.opened;
   epoch = s.epoch;
   image = s.image;
   sizes = s.sizes;
@@ -72,23 +71,23 @@ turn First s m n t u r = ap (λ (l : List ℕ). l ++ m ++ t ++ ((n ++ u) ++ r)) 
 turn Second s m n t u r = turn_back s m n t u r ∙ ap (λ (l : List ℕ). l ++ n ++ u ++ ((m ++ t) ++ r)) (sym (append-nil s))
 
 -- the other half with an image of this plant in the next epoch is the one that stands
-pub turns : (c : Cut) (plant : Condensed) (gate : ℕ) (tail new_tail : List ℕ) → device_of (with_other c (half_text c.layout (other c.half) (newer c.version) gate (c.epoch + 1) plant [] ++ new_tail)) tail ≡ device_of (turned_cut c plant gate tail) new_tail
-turns c plant gate tail new_tail = turn c.half (165 ∷ header_text c.layout) (half_text c.layout c.half c.version c.half_gate c.epoch c.base c.frames) (half_text c.layout (other c.half) (newer c.version) gate (c.epoch + 1) plant []) tail new_tail c.rest
+pub turns : (c : Cut) (plant : Condensed) (tail new_tail : List ℕ) → device_of (with_other c (half_text c.layout (other c.half) (newer c.version) (c.epoch + 1) plant [] ++ new_tail)) tail ≡ device_of (turned_cut c plant tail) new_tail
+turns c plant tail new_tail = turn c.half (165 ∷ header_text c.layout) (half_text c.layout c.half c.version c.epoch c.base c.frames) (half_text c.layout (other c.half) (newer c.version) (c.epoch + 1) plant []) tail new_tail c.rest
 
-half_length : (c : Cut) (tail : List ℕ) → length (image_text c.base) ≡ image_size c.layout → Reaches c tail → length (half_text c.layout c.half c.version c.half_gate c.epoch c.base c.frames ++ tail) ≡ half_len c.layout
+half_length : (c : Cut) (tail : List ℕ) → length (image_text c.base) ≡ image_size c.layout → Reaches c tail → length (half_text c.layout c.half c.version c.epoch c.base c.frames ++ tail) ≡ half_len c.layout
 half_length c tail by_image reaches =
     omega (
       arith,
       reaches,
       by_image,
-      length-append (half_text c.layout c.half c.version c.half_gate c.epoch c.base c.frames) tail,
+      length-append (half_text c.layout c.half c.version c.epoch c.base c.frames) tail,
       head_long c.layout c.half (head_before c.version c.epoch c.base),
-      length-append ((c.half_gate ∷ half_head_text c.layout c.half (head_before c.version c.epoch c.base)) ++ image_text c.base) (frames_text c.version c.epoch c.base.panel.count c.frames),
-      length-append (c.half_gate ∷ half_head_text c.layout c.half (head_before c.version c.epoch c.base)) (image_text c.base),
+      length-append ((165 ∷ half_head_text c.layout c.half (head_before c.version c.epoch c.base)) ++ image_text c.base) (frames_text c.version c.epoch c.base.panel.count c.frames),
+      length-append (165 ∷ half_head_text c.layout c.half (head_before c.version c.epoch c.base)) (image_text c.base),
     )
 
-epoch_there : (l : Layout) (h : Half) (version : Version) (gate epoch : ℕ) (q : Condensed) (frames : List Frame) (tail : List ℕ) → epoch < 2 ^ 64 → epoch_in (half_text l h version gate epoch q frames ++ tail) ≡ epoch
-epoch_there l h version gate epoch q frames tail lt = from_be_bytes-to_be_bytes_8 epoch lt
+epoch_there : (l : Layout) (h : Half) (version : Version) (epoch : ℕ) (q : Condensed) (frames : List Frame) (tail : List ℕ) → epoch < 2 ^ 64 → epoch_in (half_text l h version epoch q frames ++ tail) ≡ epoch
+epoch_there l h version epoch q frames tail lt = from_be_bytes-to_be_bytes_8 epoch lt
 
 -- a header that allows a half allows what a checkpoint makes of its version
 pub newer_allowed : (header half : Version) → allows header half ≡ true → allows header (newer half) ≡ true
@@ -102,47 +101,46 @@ newer_allowed V03 V01 allowed = absurd cc
 newer_allowed V03 V02 allowed = absurd cc
 newer_allowed V03 V03 allowed = refl
 
-twice_other : (h : Half) → other (other h) ≡ h
+pub twice_other : (h : Half) → other (other h) ≡ h
 twice_other First = refl
 twice_other Second = refl
 
 -- a head that is whole may be next to another, whatever its gate
 pub beside_whole : (l : Layout) (h : Half) (bytes : List ℕ) (t : HalfHead) → half_head_from l h bytes ≡ Ok t → beside_from l h bytes ≡ Ok tt
-beside_whole l h bytes t e = by_need (is_summed l.version && gate_in l.version bytes)
+beside_whole l h bytes t e = by_need (is_summed l.version && gate_in bytes)
   where
     by_need : (b : Bool) → cond b (checked (half_head_from l h bytes)) (Ok tt) ≡ Ok tt
     by_need true = ap checked e
     by_need false = refl
 
 -- next to a closed gate nothing has to be whole
-pub shut_beside : (l : Layout) (h : Half) (half : List ℕ) → gate_in l.version half ≡ false → beside_from l h (take 25 half) ≡ Ok tt
+pub shut_beside : (l : Layout) (h : Half) (half : List ℕ) → gate_in half ≡ false → beside_from l h (take 25 half) ≡ Ok tt
 shut_beside l h half shut =
-    ap (λ (b : Bool). cond (is_summed l.version && b) (checked (half_head_from l h (take 25 half))) (Ok tt)) (gate_short l.version half ∙ shut) ∙ by_version (is_summed l.version)
+    ap (λ (b : Bool). cond (is_summed l.version && b) (checked (half_head_from l h (take 25 half))) (Ok tt)) (gate_short half ∙ shut) ∙ by_version (is_summed l.version)
   where
     by_version : (b : Bool) → cond (b && false) (checked (half_head_from l h (take 25 half))) (Ok tt) ≡ Ok tt
     by_version true = refl
     by_version false = refl
 
 -- the half that stood before is the other one then
-turned_below : (c : Cut) (plant : Condensed) (tail : List ℕ) → Stores c plant → IsBelow c.layout (other (other c.half)) (c.epoch + 1) (half_text c.layout c.half c.version c.half_gate c.epoch c.base c.frames ++ tail)
+turned_below : (c : Cut) (plant : Condensed) (tail : List ℕ) → Stores c plant → IsBelow c.layout (other (other c.half)) (c.epoch + 1) (half_text c.layout c.half c.version c.epoch c.base c.frames ++ tail)
 turned_below c plant tail s =
-    let half : List ℕ = half_text c.layout c.half c.version c.half_gate c.epoch c.base c.frames ++ tail in
+    let half : List ℕ = half_text c.layout c.half c.version c.epoch c.base c.frames ++ tail in
     let head : HalfHead = head_before c.version c.epoch c.base in
-    let mark : List ℕ = c.half_gate ∷ half_head_text c.layout c.half head in
+    let mark : List ℕ = 165 ∷ half_head_text c.layout c.half head in
     let front : take 25 half ≡ mark =
     ap (take 25) (append_assoc (mark ++ image_text c.base) (frames_text c.version c.epoch c.base.panel.count c.frames) tail ∙ append_assoc mark (image_text c.base) (frames_text c.version c.epoch c.base.panel.count c.frames ++ tail))
     ∙ take_at mark (image_text c.base ++ (frames_text c.version c.epoch c.base.panel.count c.frames ++ tail)) 25 (ap suc (head_long c.layout c.half head)) in
     subst (λ (h : Half). IsBelow c.layout h (c.epoch + 1) half) (sym (twice_other c.half))
     (record {
-      older = inr (omega (arith, epoch_there c.layout c.half c.version c.half_gate c.epoch c.base c.frames tail s.epoch));
-      whole = ap (beside_from c.layout c.half) front ∙ beside_whole c.layout c.half mark head (told_again c.half_gate c.layout c.half head s.layout (head_fits c plant s));
+      older = inr (omega (arith, epoch_there c.layout c.half c.version c.epoch c.base c.frames tail s.epoch));
+      whole = ap (beside_from c.layout c.half) front ∙ beside_whole c.layout c.half mark head (told_again 165 c.layout c.half head s.layout (head_fits c plant s));
     })
 
-pub stores_turned : (c : Cut) (plant : Condensed) (gate : ℕ) (tail : List ℕ) → Stores c plant → is_open (newer c.version) gate ≡ true → Reaches c tail → c.epoch + 1 < 2 ^ 64 → Stores (turned_cut c plant gate tail) plant
-stores_turned c plant gate tail s opened reaches more = record {
+pub stores_turned : (c : Cut) (plant : Condensed) (tail : List ℕ) → Stores c plant → Reaches c tail → c.epoch + 1 < 2 ^ 64 → Stores (turned_cut c plant tail) plant
+stores_turned c plant tail s reaches more = record {
   layout = s.layout;
   version = newer_allowed c.layout.version c.version s.version;
-  opened = opened;
   epoch = more;
   image = image_stored c plant s;
   sizes = sizes_stored c plant s;
@@ -163,25 +161,24 @@ side_second s m o t r = simp append_assoc
 side_first : (s m o t r : List ℕ) → (s ++ []) ++ m ++ t ++ (o ++ r) ≡ ((s ++ []) ++ m) ++ t ++ o ++ r
 side_first s m o t r = simp append_assoc
 
-pub beside : (l : Layout) (h : Half) (v : Version) (g e : ℕ) (q : Condensed) (frames : List Frame) (old bytes rest tail : List ℕ)
-    → device_of (record { layout = l; half = h; version = v; half_gate = g; epoch = e; base = q; frames = frames; other = bytes; rest = rest }) tail
-    ≡ side_front (record { layout = l; half = h; version = v; half_gate = g; epoch = e; base = q; frames = frames; other = old; rest = rest }) h tail ++ bytes ++ side_back (record { layout = l; half = h; version = v; half_gate = g; epoch = e; base = q; frames = frames; other = old; rest = rest }) h tail
-beside l First v g e q frames old bytes rest tail = side_first (165 ∷ header_text l) (half_text l First v g e q frames) bytes tail rest
-beside l Second v g e q frames old bytes rest tail = side_second (165 ∷ header_text l) (half_text l Second v g e q frames) bytes tail rest
+pub beside : (l : Layout) (h : Half) (v : Version) (e : ℕ) (q : Condensed) (frames : List Frame) (old bytes rest tail : List ℕ)
+    → device_of (record { layout = l; half = h; version = v; epoch = e; base = q; frames = frames; other = bytes; rest = rest }) tail
+    ≡ side_front (record { layout = l; half = h; version = v; epoch = e; base = q; frames = frames; other = old; rest = rest }) h tail ++ bytes ++ side_back (record { layout = l; half = h; version = v; epoch = e; base = q; frames = frames; other = old; rest = rest }) h tail
+beside l First v e q frames old bytes rest tail = side_first (165 ∷ header_text l) (half_text l First v e q frames) bytes tail rest
+beside l Second v e q frames old bytes rest tail = side_second (165 ∷ header_text l) (half_text l Second v e q frames) bytes tail rest
 
 -- ---- a turn with frames that were copied
 
-pub turns_with : (c : Cut) (base : Condensed) (gate : ℕ) (frames : List Frame) (tail new_tail : List ℕ)
-    → device_of (with_other c (half_text c.layout (other c.half) (newer c.version) gate (c.epoch + 1) base frames ++ new_tail)) tail ≡ device_of (turned_with c base gate frames tail) new_tail
-turns_with c base gate frames tail new_tail = turn c.half (165 ∷ header_text c.layout) (half_text c.layout c.half c.version c.half_gate c.epoch c.base c.frames) (half_text c.layout (other c.half) (newer c.version) gate (c.epoch + 1) base frames) tail new_tail c.rest
+pub turns_with : (c : Cut) (base : Condensed) (frames : List Frame) (tail new_tail : List ℕ)
+    → device_of (with_other c (half_text c.layout (other c.half) (newer c.version) (c.epoch + 1) base frames ++ new_tail)) tail ≡ device_of (turned_with c base frames tail) new_tail
+turns_with c base frames tail new_tail = turn c.half (165 ∷ header_text c.layout) (half_text c.layout c.half c.version c.epoch c.base c.frames) (half_text c.layout (other c.half) (newer c.version) (c.epoch + 1) base frames) tail new_tail c.rest
 
-pub stores_turned_with : (c : Cut) (plant base : Condensed) (gate : ℕ) (frames : List Frame) (tail : List ℕ) → Stores c plant → is_open (newer c.version) gate ≡ true → Reaches c tail → c.epoch + 1 < 2 ^ 64 → IsImageText base (image_text base)
+pub stores_turned_with : (c : Cut) (plant base : Condensed) (frames : List Frame) (tail : List ℕ) → Stores c plant → Reaches c tail → c.epoch + 1 < 2 ^ 64 → IsImageText base (image_text base)
     → IsOf c.layout.rows c.layout.areas base.panel.count base → base.panel.count ≤ 2 ^ 48 → AreFrames (newer c.version) (c.epoch + 1) base.panel.count frames → AreAdmitted base (actions_in frames) → run base (actions_in frames) ≡ plant
-    → Stores (turned_with c base gate frames tail) plant
-stores_turned_with c plant base gate frames tail s opened reaches more image sizes count spelled admitted runs = record {
+    → Stores (turned_with c base frames tail) plant
+stores_turned_with c plant base frames tail s reaches more image sizes count spelled admitted runs = record {
   layout = s.layout;
   version = newer_allowed c.layout.version c.version s.version;
-  opened = opened;
   epoch = more;
   image = image;
   sizes = sizes;

@@ -25,10 +25,9 @@ pub record IsLayout (l : Layout) : Type 0 where
 -- A device whose half stands, without the bytes of its segment from the first closed gate on.
 pub record Cut : Type 0 where
   pub layout : Layout
-  -- the half that stands, its version, its gate, its epoch, the plant of its image and its frames
+  -- the half that stands, its version, its epoch, the plant of its image and its frames
   pub half : Half
   pub version : Version
-  pub half_gate : ℕ
   pub epoch : ℕ
   pub base : Condensed
   pub frames : List Frame
@@ -41,10 +40,10 @@ abbrev pub head_before : Version → (epoch : ℕ) → Condensed → HalfHead
 head_before version epoch base =
     record { epoch = epoch; version = version; count = base.panel.count; sum = image_sum version (image_text base) }
 
--- a half from its gate on, up to a place in its segment
-abbrev pub half_text : Layout → Half → Version → (gate epoch : ℕ) → Condensed → List Frame → List ℕ
-half_text l h version gate epoch base frames =
-    gate ∷ half_head_text l h (head_before version epoch base) ++ image_text base ++ frames_text version epoch base.panel.count frames
+-- a half from its open gate on, up to a place in its segment
+abbrev pub half_text : Layout → Half → Version → (epoch : ℕ) → Condensed → List Frame → List ℕ
+half_text l h version epoch base frames =
+    165 ∷ half_head_text l h (head_before version epoch base) ++ image_text base ++ frames_text version epoch base.panel.count frames
 
 -- what is before the half that stands, and after it
 abbrev pub before : Half → List ℕ → List ℕ
@@ -56,7 +55,7 @@ behind First other rest = other ++ rest
 behind Second other rest = rest
 
 abbrev pub front : Cut → List ℕ
-front c = (165 ∷ header_text c.layout ++ before c.half c.other) ++ half_text c.layout c.half c.version c.half_gate c.epoch c.base c.frames
+front c = (165 ∷ header_text c.layout ++ before c.half c.other) ++ half_text c.layout c.half c.version c.epoch c.base c.frames
 
 abbrev pub back : Cut → List ℕ
 back c = behind c.half c.other c.rest
@@ -71,14 +70,13 @@ Reaches c tail = length (frames_text c.version c.epoch c.base.panel.count c.fram
 
 -- a half does not stand next to one of this epoch, and its head is whole where it has to be
 pub record IsBelow (l : Layout) (h : Half) (epoch : ℕ) (half : List ℕ) : Type 0 where
-  pub older : (gate_in l.version half ≡ false) ⊎ (epoch_in half < epoch)
+  pub older : (gate_in half ≡ false) ⊎ (epoch_in half < epoch)
   pub whole : beside_from l h (take head_len half) ≡ Ok tt
 
 -- it stores this plant
 pub record Stores (c : Cut) (plant : Condensed) : Type 0 where
   pub layout : IsLayout c.layout
   pub version : allows c.layout.version c.version ≡ true
-  pub opened : is_open c.version c.half_gate ≡ true
   pub epoch : c.epoch < 2 ^ 64
   pub image : IsImageText c.base (image_text c.base)
   pub sizes : IsOf c.layout.rows c.layout.areas c.base.panel.count c.base
@@ -98,9 +96,9 @@ OtherGates version [] [] = Unit {0}
 OtherGates version (f ∷ frames) (g ∷ others) = (g.asked ≡ f.asked) × (is_open version g.gate ≡ true) × OtherGates version frames others
 OtherGates version _ _ = ⊥
 
--- another gate of the half that stands, and these frames
-abbrev pub with_gates : Cut → ℕ → List Frame → Cut
-with_gates c gate frames = record c { half_gate = gate; frames = frames }
+-- other frames
+abbrev pub with_frames : Cut → List Frame → Cut
+with_frames c frames = record c { frames = frames }
 
 -- one frame more after the others
 abbrev pub with_frame : Cut → Frame → Cut
@@ -110,18 +108,17 @@ with_frame c frame = record c { frames = c.frames ++ frame ∷ [] }
 abbrev pub with_other : Cut → List ℕ → Cut
 with_other c bytes = record c { other = bytes }
 
--- the other half stands with this gate, in the next epoch and the version that a checkpoint writes. It has the image of this
--- plant and no frames; these bytes end the half that stood before
-abbrev pub turned_cut : Cut → Condensed → (gate : ℕ) → List ℕ → Cut
-turned_cut c plant gate tail = record {
+-- the other half stands, in the next epoch and the version that a checkpoint writes. It has the image of this plant and no
+-- frames; these bytes end the half that stood before
+abbrev pub turned_cut : Cut → Condensed → List ℕ → Cut
+turned_cut c plant tail = record {
   layout = c.layout;
   half = other c.half;
   version = newer c.version;
-  half_gate = gate;
   epoch = c.epoch + 1;
   base = plant;
   frames = [];
-  other = half_text c.layout c.half c.version c.half_gate c.epoch c.base c.frames ++ tail;
+  other = half_text c.layout c.half c.version c.epoch c.base c.frames ++ tail;
   rest = c.rest;
 }
 
@@ -144,8 +141,8 @@ side_front c Second tail = 165 ∷ header_text c.layout
 
 abbrev pub side_back : Cut → Half → List ℕ → List ℕ
 side_back c First tail = c.rest
-side_back c Second tail = half_text c.layout c.half c.version c.half_gate c.epoch c.base c.frames ++ tail ++ c.rest
+side_back c Second tail = half_text c.layout c.half c.version c.epoch c.base c.frames ++ tail ++ c.rest
 
 -- the same, if the other half also has frames after its image
-abbrev pub turned_with : Cut → Condensed → (gate : ℕ) → List Frame → List ℕ → Cut
-turned_with c base gate frames tail = record (turned_cut c base gate tail) { frames = frames }
+abbrev pub turned_with : Cut → Condensed → List Frame → List ℕ → Cut
+turned_with c base frames tail = record (turned_cut c base tail) { frames = frames }

@@ -2,8 +2,6 @@
 -- reported.
 use Rattle.std.specs.Prelude.{ℕ, ◌+◌, ◌-◌, ◌&&◌, List, length, drop, Bool, true, false, Result, Ok, Err, nat_lt, nat_le, ◌==◌, if◌then◌else◌}
 use Rattle.std.specs.Int.{w64, from_be_bytes}
-use Rattle.alm_codec.specs.declared.version.Version.{Version}
-use Rattle.alm_codec.specs.Versions.{is_open}
 use Rattle.alm_checkpoint.specs.declared.layout.Layout.{Layout}
 use Rattle.alm_checkpoint.specs.declared.half.Half.{Half}
 use Rattle.alm_checkpoint.specs.declared.half.Half.TheVariants.{First, Second}
@@ -12,7 +10,7 @@ use Rattle.alm_checkpoint.specs.declared.device_fault.DeviceFault.TheVariants.{U
 use Rattle.alm_checkpoint.specs.declared.no_choice.NoChoice.{NoChoice}
 use Rattle.alm_checkpoint.specs.declared.no_choice.NoChoice.TheVariants.{NoneOpen, EqualEpochs}
 use Rattle.alm_checkpoint.specs.declared.half_head.HalfHead.{HalfHead}
-use Rattle.alm_checkpoint.specs.Layouts.{layout_byte, is_header_open, part, header_len, head_len, half_at, image_at, segment_at, image_size, half_number, other}
+use Rattle.alm_checkpoint.specs.Layouts.{layout_byte, is_header_open, is_half_open, part, header_len, head_len, half_at, image_at, segment_at, image_size, half_number, other}
 use Rattle.alm_checkpoint.specs.Headers.{header, half_head, is_summed}
 
 infixl 10 ◌>>=◌
@@ -54,16 +52,16 @@ abbrev pub or_fault : Layout → Result Half NoChoice → Result Half DeviceFaul
 or_fault l (Ok h) = Ok h
 or_fault l (Err why) = Err (no_half l why)
 
--- whether a half's gate is open under a header of a version, and the half's epoch, by the bytes of its head
-abbrev pub gate_in : Version → List ℕ → Bool
-gate_in version bytes = is_open version (layout_byte bytes 0)
+-- whether a half's gate is open, and the half's epoch, by the bytes of its head
+abbrev pub gate_in : List ℕ → Bool
+gate_in bytes = is_half_open (layout_byte bytes 0)
 
 abbrev pub epoch_in : List ℕ → ℕ
 epoch_in bytes = from_be_bytes w64 (part 1 8 bytes)
 
 -- the half that stands, by the bytes of both heads
 abbrev pub chosen_from : Layout → (first second : List ℕ) → Result Half DeviceFault
-chosen_from l first second = or_fault l (choice (gate_in l.version first) (gate_in l.version second) (epoch_in first) (epoch_in second))
+chosen_from l first second = or_fault l (choice (gate_in first) (gate_in second) (epoch_in first) (epoch_in second))
 
 -- what the head of a half says, by its bytes
 unfoldable pub half_head_from : Layout → Half → List ℕ → Result HalfHead DeviceFault
@@ -78,7 +76,7 @@ checked (Err fault) = Err fault
 
 -- the head of the half that doesn't stand has to be whole in version 03, if its gate is open
 abbrev pub beside_from : Layout → Half → List ℕ → Result Unit DeviceFault
-beside_from l h bytes = if is_summed l.version && gate_in l.version bytes then checked (half_head_from l h bytes) else Ok tt
+beside_from l h bytes = if is_summed l.version && gate_in bytes then checked (half_head_from l h bytes) else Ok tt
 
 -- one of two heads
 abbrev pub head_by : Half → (first second : List ℕ) → List ℕ

@@ -2,10 +2,11 @@
 
 ghost use Rattle.std.specs.Prelude.{◌≡◌, length};
 ghost use Rattle.alm_checkpoint.specs.Opening.{gate_in, epoch_in, choice};
+ghost use Rattle.alm_checkpoint.specs.Layouts.{is_half_open};
 
 use crate::half::Half;
 use crate::no_choice::NoChoice;
-use alm_codec::Version;
+use alm_codec::OPEN_GATE;
 
 /// The gate of a half and its epoch, which decide between the halves.
 #[derive(Clone, Copy, Debug, PartialEq, Eq)]
@@ -14,14 +15,22 @@ pub struct HalfGate {
     pub epoch: u64,
 }
 
-/// The gate of a half and its epoch, by the 25 bytes of its head under a header of a version. The other fields are not read.
-pub fn read_half_gate(bytes: &[u8], version: Version) -> HalfGate
+/// Whether the gate of a half is open. In every version it is so at [`OPEN_GATE`] alone: one that a checkpoint left closed, at 5A,
+/// is opened by no change of fewer than eight bits.
+pub(crate) fn is_half_open(gate: u8) -> bool
+    ensures { result ≡ is_half_open gate }
+{
+    gate == OPEN_GATE
+}
+
+/// The gate of a half and its epoch, by the 25 bytes of its head. The other fields are not read.
+pub fn read_half_gate(bytes: &[u8]) -> HalfGate
     requires { length bytes.now ≡ 25 }
-    ensures gate { result.open ≡ gate_in version bytes.now }
+    ensures gate { result.open ≡ gate_in bytes.now }
     ensures epoch { result.epoch ≡ epoch_in bytes.now }
 {
     HalfGate {
-        open: version.is_open(bytes[0]),
+        open: is_half_open(bytes[0]),
         epoch: u64::from_be_bytes([
             bytes[1], bytes[2], bytes[3], bytes[4], bytes[5], bytes[6], bytes[7], bytes[8],
         ]),

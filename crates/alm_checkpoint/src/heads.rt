@@ -7,7 +7,7 @@ ghost use Rattle.alm_types.specs.Sizes.{most_actions};
 
 use crate::device_fault::DeviceFault;
 use crate::half::Half;
-use crate::half_gate::{choose, read_half_gate};
+use crate::half_gate::{choose, is_half_open, read_half_gate};
 use crate::half_head::HalfHead;
 use crate::layout::Layout;
 use alm_codec::Version;
@@ -21,7 +21,7 @@ impl Layout {
         match self.version {
             Version::V01 | Version::V02 => Ok(()),
             Version::V03 => {
-                if self.version.is_open(bytes[0]) {
+                if is_half_open(bytes[0]) {
                     self.read_half_head(half, bytes)?;
                 }
                 Ok(())
@@ -41,8 +41,8 @@ impl Layout {
         ensures count { IfOk result (λ x. x.1.count ≤ most_actions) }
         ensures allowed { IfOk result (λ x. allows self.now.version x.1.version ≡ true) }
     {
-        let zero = read_half_gate(first, self.version);
-        let one = read_half_gate(second, self.version);
+        let zero = read_half_gate(first);
+        let one = read_half_gate(second);
         match choose(&zero, &one) {
             Ok(Half::First) => {
                 let head = self.read_half_head(Half::First, first)?;

@@ -13,11 +13,13 @@ ghost use Rattle.alm_checkpoint.specs.declared.device_fault.DeviceFault.{DeviceF
 ghost use Rattle.alm_checkpoint.specs.declared.half_head.HalfHead.{HalfHead};
 ghost use Rattle.alm_checkpoint.specs.declared.layout.Layout.{Layout};
 ghost use Rattle.alm_checkpoint.specs.declared.half.Half.{Half};
-ghost use Rattle.alm_checkpoint.specs.Layouts.{device_len, half_len, other, image_sum_at};
+ghost use Rattle.alm_checkpoint.specs.declared.half.Half.TheVariants.{First};
+ghost use Rattle.alm_checkpoint.specs.declared.device_fault.DeviceFault.TheVariants.{Damaged};
+ghost use Rattle.alm_checkpoint.specs.Layouts.{device_len, half_at, half_len, other, image_sum_at};
 ghost use Rattle.alm_checkpoint.specs.Headers.{header_text, half_head_text, image_sum, IsHeadOf};
-ghost use Rattle.alm_checkpoint.specs.Opening.{Opened, half_head_from, layout_from};
+ghost use Rattle.alm_checkpoint.specs.Opening.{Opened, gate_in, half_head_from, head_of, layout_from};
 ghost use Rattle.alm_checkpoint.specs.Standing.{Stands, HasFault, Meaning, gate_place, image_damage};
-ghost use Rattle.alm_checkpoint.specs.Cut.{Cut, IsLayout, Stores, Reaches, IsBelow, IsCut, OtherGates, half_text, device_of, with_frame, with_gates, with_other, turned_cut};
+ghost use Rattle.alm_checkpoint.specs.Cut.{Cut, IsLayout, Stores, Reaches, IsBelow, IsCut, OtherGates, half_text, device_of, with_frame, with_frames, with_other, turned_cut};
 
 /// No text of a header is a prefix of another's.
 pub fn no_header_begins_another()
@@ -73,18 +75,26 @@ pub fn another_half()
 /// Let the other half have an open gate, the version that a checkpoint writes, the next epoch and an image of the stored plant.
 /// Then that half stands, and the same plant is stored.
 pub fn a_turn()
-    ensures { (c : Cut) (plant : Condensed) (gate : ℕ) (tail new_tail : List ℕ) → Stores c plant →
-        is_open (newer c.version) gate ≡ true → Reaches c tail → c.epoch + 1 < 2 ^ 64 →
-        Stores (turned_cut c plant gate tail) plant × (device_of (with_other c (half_text c.layout
-        (other c.half) (newer c.version) gate (c.epoch + 1) plant [] ++ new_tail)) tail ≡
-        device_of (turned_cut c plant gate tail) new_tail) }
+    ensures { (c : Cut) (plant : Condensed) (tail new_tail : List ℕ) → Stores c plant →
+        Reaches c tail → c.epoch + 1 < 2 ^ 64 →
+        Stores (turned_cut c plant tail) plant × (device_of (with_other c (half_text c.layout
+        (other c.half) (newer c.version) (c.epoch + 1) plant [] ++ new_tail)) tail ≡
+        device_of (turned_cut c plant tail) new_tail) }
 {}
 
-/// Whatever open gates a half and its frames have, the same plant is stored. In version 03 every gate but 5A is open.
+/// Whatever open gates the frames have, the same plant is stored. In version 03 a frame's gate is open at every value but 5A.
 pub fn other_gates()
-    ensures { (c : Cut) (plant : Condensed) (gate : ℕ) (frames : List Frame) → Stores c plant →
-        is_open c.version gate ≡ true → OtherGates c.version c.frames frames →
-        Stores (with_gates c gate frames) plant }
+    ensures { (c : Cut) (plant : Condensed) (frames : List Frame) → Stores c plant →
+        OtherGates c.version c.frames frames → Stores (with_frames c frames) plant }
+{}
+
+/// Let the gate of the half that stands be changed while the other half's is closed. Then no half stands, and that is damage.
+pub fn a_damaged_half_gate_is_told()
+    ensures { (bytes : List ℕ) (epoch : ℕ) (plant : Condensed) (s : Stands bytes epoch plant)
+        (front back : List ℕ) (gate : ℕ) → bytes ≡ front ++ 165 ∷ back →
+        length front ≡ half_at s.opened.layout s.opened.half →
+        gate_in (head_of s.opened.layout (other s.opened.half) bytes) ≡ false → gate ≢ 165 →
+        HasFault (front ++ gate ∷ back) (Damaged 2 (half_at s.opened.layout First)) }
 {}
 
 /// A half's head of version 03 of which one byte was changed is damaged.

@@ -16,7 +16,7 @@
 //!
 //! | offset in a half | bytes | field |
 //! |---|---|---|
-//! | 0 | 1 | gate: open at A5 alone; in version 03 open at every value but 5A |
+//! | 0 | 1 | gate: open at A5 alone; what is closed in version 03 is 5A, eight bits from it |
 //! | 1 | 8 | epoch |
 //! | 9 | 8 | mark and count: the mark of the half's version in the first byte, 0, 2 or 253, then how many actions made the plant of the image, at most 2^48 |
 //! | 17 | 8 | length of the image, I; in version 03 the checksums of image 4 and head 4 |
@@ -51,16 +51,17 @@
 //!
 //! Only [`recover`] and [`Layout::restore`] take memory, and a fault `OutOfMemory` says nothing about the bytes. Not covered:
 //! that memory suffices, which tests show. Versions 01 and 02 have no checksum: damage that breaks no rule is not found. In
-//! version 03 a change of one byte is found but in gates. A frame's open gate that becomes 5A ends the journal there, as if its
-//! commit had not ended; so do bytes that were there earlier and come back whole.
+//! version 03 a change of one byte is found but in gates. Of the half that stands a changed gate is told if the other half's is
+//! closed. A frame's open gate that becomes 5A ends the journal there, as if its commit had not ended; so do bytes that were there
+//! earlier and come back whole.
 //!
 //! Proved:
 //! - every list of bytes holds exactly one plant in one epoch, or has exactly one fault; header and heads are written as
 //!   they are read (by `recover`, `Layout::restore`, `read_header`, `choose`, `laws`)
 //! - what lies after the first closed gate or in the other half changes nothing; the longest segment that fits twice (by
 //!   `laws`, `Layout::longest`)
-//! - in version 03 a head or an image of which one byte was changed is damaged, and whatever open gates there are, the same
-//!   plant stands (by `laws`)
+//! - in version 03 a head or an image of which one byte was changed is damaged, and whatever open gates the frames have, the
+//!   same plant stands; a changed gate of the half that stands is damage if the other half's is closed (by `laws`)
 #![tactic(auto)]
 
 mod device_fault;

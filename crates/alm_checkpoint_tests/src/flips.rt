@@ -13,9 +13,9 @@ const SEGMENT: usize = 10_394;
 
 const SECOND: usize = 14_510;
 
-/// How many bits are reported. Of the header, of the first half's head and of both frames these are all but those of a gate.
-/// There are those of the gate after the frames and of the second half's gate, and one of each byte of the image.
-const REPORTED: u32 = 8 * (23 + 24 + 2 * 34 + 1 + 1) + 10_346;
+/// How many bits are reported. Of the header and of the first half's head these are all, and of both frames all but those of a
+/// gate. There are those of the gate after the frames, and one of each byte of the image.
+const REPORTED: u32 = 8 * (23 + 25 + 2 * 34 + 1) + 10_346;
 
 /// What the flips of a device come to.
 #[derive(Clone, Copy, Debug, PartialEq, Eq)]

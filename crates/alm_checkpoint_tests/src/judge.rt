@@ -10,6 +10,9 @@ use crate::numbers::{byte, checksum, number, part, register_after, tail};
 use crate::worked::Opened;
 use alm_checkpoint::{DeviceFault, Half};
 
+/// The value at which the gates of the header and of halves are open, and in versions 01 and 02 those of frames.
+const OPEN: u8 = 0xA5;
+
 /// Rows, areas, and the length of a segment.
 #[derive(Clone, Copy)]
 pub struct Sizes {
@@ -27,12 +30,12 @@ impl Sizes {
         16 + 4801 * self.areas as usize + 182 * self.rows as usize
     }
 
-    /// Whether a gate of a half or of a frame is open.
+    /// Whether a frame's gate is open.
     pub fn is_open(self, gate: u8) -> bool {
         if self.is_summed {
             gate != 0x5A
         } else {
-            gate == 0xA5
+            gate == OPEN
         }
     }
 
@@ -62,7 +65,7 @@ fn marks_of(name: &[u8]) -> Option<(u8, u8)> {
 }
 
 fn sizes_of(device: &[u8]) -> Result<Sizes, DeviceFault> {
-    if device.len() < 23 || byte(device, 0) != 0xA5 {
+    if device.len() < 23 || byte(device, 0) != OPEN {
         return Err(DeviceFault::Unformatted);
     }
     let Some(marks) = marks_of(part(device, 1, 8)) else {
@@ -97,10 +100,7 @@ fn sizes_of(device: &[u8]) -> Result<Sizes, DeviceFault> {
 fn standing(device: &[u8], sizes: Sizes) -> Result<(Half, usize), DeviceFault> {
     let second = sizes.half().saturating_add(23);
     let epochs = (number(device, 24, 8), number(tail(device, second), 1, 8));
-    match (
-        sizes.is_open(byte(device, 23)),
-        sizes.is_open(byte(device, second)),
-    ) {
+    match (byte(device, 23) == OPEN, byte(device, second) == OPEN) {
         (false, false) => Err(damaged(2, 23)),
         (true, false) => Ok((Half::First, 23)),
         (false, true) => Ok((Half::Second, second)),
@@ -140,7 +140,7 @@ fn heads(device: &[u8], sizes: Sizes, which: Half, start: usize) -> Result<(), D
         return Err(damaged(own, at.saturating_add(start)));
     }
     let other = if own == 0 { second } else { 23 };
-    if !sizes.is_summed || !sizes.is_open(byte(device, other)) {
+    if !sizes.is_summed || byte(device, other) != OPEN {
         return Ok(());
     }
     match head_fault(device, other, sizes) {

@@ -13,6 +13,7 @@ use Rattle.alm_checkpoint.specs.Layouts.{half_len}
 use Rattle.alm_checkpoint.specs.Cut.{Cut, Stores, Reaches, front, back}
 use Rattle.alm_checkpoint.specs.Cut.{device_of}
 use Rattle.alm_keeper.specs.Stand.{Account, account_of, Ready, end_of_half, other_at, TakesAsked, with_commit}
+use Rattle.alm_keeper.proofs.Gates.{written_open}
 use Rattle.alm_keeper.specs.Resting.{RestsBut, Blind, Guarded, Kept}
 use Rattle.alm_keeper.specs.declared.stage.Stage.TheVariants.{Body}
 use Rattle.alm_keeper.specs.Piecewise.{Copy, open_text, IsCopy, is_sent, Paused}
@@ -62,7 +63,8 @@ module _ (c : Cut) (plant : Condensed) (actions : List Asked) (gate : ℕ) (tail
   pub guarded : (loose : ℕ) → Loosely (account_of c plant) loose
       → Guarded (is_sent (account_of c plant) loose) (Ready (account_of c plant)) (Ready (with_commit (account_of c plant) actions)) (length (front c)) (frame_body c.version c.epoch (plant.panel.count + 1) actions)
   guarded loose is = record {
-    version = c.version;
+    opens = is_open c.version;
+    written = written_open c.version;
     front = front c;
     room = take size tail;
     back = drop size tail ++ back c;

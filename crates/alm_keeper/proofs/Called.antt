@@ -15,7 +15,7 @@ use Rattle.alm_keeper.specs.declared.book.Book.{Book}
 use Rattle.alm_store.specs.declared.progress.Progress.{Progress}
 use Rattle.alm_store.specs.declared.progress.Progress.TheVariants.{More, Done, Failed}
 use Rattle.alm_keeper.specs.declared.stage.Stage.{Stage}
-use Rattle.alm_keeper.specs.declared.stage.Stage.TheVariants.{Idle, Close, CloseSync, Body, BodySync, Gate, GateSync, Stopped}
+use Rattle.alm_keeper.specs.declared.stage.Stage.TheVariants.{Idle, Close, CloseSync, Body, BodySync, Gate, TurnSync, Retire, GateSync, Stopped}
 use Rattle.alm_keeper.specs.declared.stage.Work.{Work}
 use Rattle.alm_keeper.specs.declared.stage.Work.TheVariants.{Commit, Checkpoint}
 use Rattle.alm_keeper.specs.Calls.{stage_call}
@@ -36,21 +36,23 @@ gate_is l Second gate within = omega (arith, within)
 
 module _ {D : Type 0} (disk : D) (b : Book) where
   -- of a commit
-  pub commit_call : InOrder b → (stage : Stage) (n : ℕ) → n ≡ frame_len (length b.actions.items) → b.work ≡ Commit → stage_call stage b.gate n ≡ call_by stage b.work (keeper_of disk b)
-  commit_call i stage n long is = by_stage stage ∙ ap (λ (w : Work). call_by stage w (keeper_of disk b)) (sym is)
+  pub commit_call : InOrder b → (stage : Stage) (n : ℕ) → n ≡ frame_len (length b.actions.items) → b.work ≡ Commit → (stage ≡ Retire → ⊥) → stage_call stage b.gate n ≡ call_by stage b.work (keeper_of disk b)
+  commit_call i stage n long is turned = by_stage stage turned ∙ ap (λ (w : Work). call_by stage w (keeper_of disk b)) (sym is)
     where
       at : b.gate ≡ gate_by Commit (keeper_of disk b)
       at = gate_is b.layout b.half b.gate i.gate
 
-      by_stage : (s : Stage) → stage_call s b.gate n ≡ call_by s Commit (keeper_of disk b)
-      by_stage Idle = refl
-      by_stage Close = ap (λ (p : ℕ). Write p 1) at
-      by_stage CloseSync = refl
-      by_stage Body = λ j. Write (at j + 1) (long j)
-      by_stage BodySync = refl
-      by_stage Gate = ap (λ (p : ℕ). Write p 1) at
-      by_stage GateSync = refl
-      by_stage Stopped = refl
+      by_stage : (s : Stage) → (s ≡ Retire → ⊥) → stage_call s b.gate n ≡ call_by s Commit (keeper_of disk b)
+      by_stage Idle not = refl
+      by_stage Close not = ap (λ (p : ℕ). Write p 1) at
+      by_stage CloseSync not = refl
+      by_stage Body not = λ j. Write (at j + 1) (long j)
+      by_stage BodySync not = refl
+      by_stage Gate not = ap (λ (p : ℕ). Write p 1) at
+      by_stage TurnSync not = refl
+      by_stage Retire not = absurd (not refl)
+      by_stage GateSync not = refl
+      by_stage Stopped not = refl
 
   other_is : other_at (account b) ≡ gate_by Checkpoint (keeper_of disk b)
   other_is = half_is b.layout (other b.half)
@@ -65,21 +67,27 @@ module _ {D : Type 0} (disk : D) (b : Book) where
       here : stage_call Body at n ≡ call_by Body Checkpoint (keeper_of disk b)
       here = λ j. Write (from j + 1) (long j)
 
-  pub checkpoint_call : (stage : Stage) (at n : ℕ) → (stage ≡ Body → ⊥) → at ≡ other_at (account b) → b.work ≡ Checkpoint → stage_call stage at n ≡ call_by stage b.work (keeper_of disk b)
-  checkpoint_call stage at n pieces place is = by_stage stage pieces ∙ ap (λ (w : Work). call_by stage w (keeper_of disk b)) (sym is)
+  pub checkpoint_call : (stage : Stage) (at n : ℕ) → (stage ≡ Body → ⊥) → (stage ≡ Retire → ⊥) → at ≡ other_at (account b) → b.work ≡ Checkpoint → stage_call stage at n ≡ call_by stage b.work (keeper_of disk b)
+  checkpoint_call stage at n pieces turned place is = by_stage stage pieces turned ∙ ap (λ (w : Work). call_by stage w (keeper_of disk b)) (sym is)
     where
       from : at ≡ gate_by Checkpoint (keeper_of disk b)
       from = place ∙ other_is
 
-      by_stage : (s : Stage) → (s ≡ Body → ⊥) → stage_call s at n ≡ call_by s Checkpoint (keeper_of disk b)
-      by_stage Idle not = refl
-      by_stage Close not = ap (λ (p : ℕ). Write p 1) from
-      by_stage CloseSync not = refl
-      by_stage Body not = absurd (not refl)
-      by_stage BodySync not = refl
-      by_stage Gate not = ap (λ (p : ℕ). Write p 1) from
-      by_stage GateSync not = refl
-      by_stage Stopped not = refl
+      by_stage : (s : Stage) → (s ≡ Body → ⊥) → (s ≡ Retire → ⊥) → stage_call s at n ≡ call_by s Checkpoint (keeper_of disk b)
+      by_stage Idle not turned = refl
+      by_stage Close not turned = ap (λ (p : ℕ). Write p 1) from
+      by_stage CloseSync not turned = refl
+      by_stage Body not turned = absurd (not refl)
+      by_stage BodySync not turned = refl
+      by_stage Gate not turned = ap (λ (p : ℕ). Write p 1) from
+      by_stage TurnSync not turned = refl
+      by_stage Retire not turned = absurd (turned refl)
+      by_stage GateSync not turned = refl
+      by_stage Stopped not turned = refl
+
+  -- .. and that of the half that stood
+  pub retire_call : (at n : ℕ) → b.stage ≡ Retire → at ≡ half_at b.layout b.half → stage_call Retire at n ≡ call_of (keeper_of disk b)
+  retire_call at n is place = ap (λ (p : ℕ). Write p 1) (place ∙ half_is b.layout b.half) ∙ ap (λ (s : Stage). call_by s b.work (keeper_of disk b)) (sym is)
 
 -- what it makes of a device
 module _ {D : Type 0} (disk : D) (b : Book) (result : Result Unit DiskFault) (old new : DeviceState) where
@@ -91,21 +99,23 @@ module _ {D : Type 0} (disk : D) (b : Book) (result : Result Unit DiskFault) (ol
   Next stage work = Makes (call_by stage work seen) (payload_by stage work seen) result old new
 
   -- of a commit
-  pub commit_makes : InOrder b → (stage : Stage) (text : List ℕ) → b.work ≡ Commit → text ≡ frame_body b.version b.epoch (b.stored.panel.count + 1) b.actions.items → StageCall b.layout.version stage b.gate text result old new → Next stage b.work
-  commit_makes i stage text is body call = subst (Next stage) (sym is) (by_stage stage call)
+  pub commit_makes : InOrder b → (stage : Stage) (text : List ℕ) → b.work ≡ Commit → (stage ≡ Retire → ⊥) → text ≡ frame_body b.version b.epoch (b.stored.panel.count + 1) b.actions.items → StageCall b.layout.version stage b.gate text result old new → Next stage b.work
+  commit_makes i stage text is turned body call = subst (Next stage) (sym is) (by_stage stage turned call)
     where
       at : b.gate ≡ gate_by Commit seen
       at = gate_is b.layout b.half b.gate i.gate
 
-      by_stage : (s : Stage) → StageCall b.layout.version s b.gate text result old new → Next s Commit
-      by_stage Idle call = absurd call
-      by_stage Close call = (refl, subst (λ (p : ℕ). Writes p (closed_gate b.layout.version ∷ []) result old new) at call)
-      by_stage CloseSync call = call
-      by_stage Body call = (body_long b.version b.epoch (b.stored.panel.count + 1) b.actions.items, subst (λ (t : List ℕ). Writes (gate_by Commit seen + 1) t result old new) body (subst (λ (p : ℕ). Writes (p + 1) text result old new) at call))
-      by_stage BodySync call = call
-      by_stage Gate call = (refl, subst (λ (p : ℕ). Writes p (165 ∷ []) result old new) at call)
-      by_stage GateSync call = call
-      by_stage Stopped call = absurd call
+      by_stage : (s : Stage) → (s ≡ Retire → ⊥) → StageCall b.layout.version s b.gate text result old new → Next s Commit
+      by_stage Idle not call = absurd call
+      by_stage Close not call = (refl, subst (λ (p : ℕ). Writes p (closed_gate b.layout.version ∷ []) result old new) at call)
+      by_stage CloseSync not call = call
+      by_stage Body not call = (body_long b.version b.epoch (b.stored.panel.count + 1) b.actions.items, subst (λ (t : List ℕ). Writes (gate_by Commit seen + 1) t result old new) body (subst (λ (p : ℕ). Writes (p + 1) text result old new) at call))
+      by_stage BodySync not call = call
+      by_stage Gate not call = (refl, subst (λ (p : ℕ). Writes p (165 ∷ []) result old new) at call)
+      by_stage TurnSync not call = call
+      by_stage Retire not call = absurd (not refl)
+      by_stage GateSync not call = call
+      by_stage Stopped not call = absurd call
 
   -- of a checkpoint: a piece, any other
   pub piece_makes : (at : ℕ) (text : List ℕ) → b.stage ≡ Body → b.work ≡ Checkpoint → b.copying ≡ true → at ≡ other_at (account b) + b.out → text ≡ take (piece_of b) (drop b.out (run_in b)) → length text ≡ piece_of b
@@ -121,21 +131,28 @@ module _ {D : Type 0} (disk : D) (b : Book) (result : Result Unit DiskFault) (ol
       here : Next Body Checkpoint
       here = (ap length (sym bytes) ∙ long, subst (λ (t : List ℕ). Writes (gate_by Checkpoint seen + b.out + 1) t result old new) bytes (subst (λ (p : ℕ). Writes (p + 1) text result old new) from call))
 
-  pub checkpoint_makes : (stage : Stage) (at : ℕ) (text : List ℕ) → (stage ≡ Body → ⊥) → at ≡ other_at (account b) → b.work ≡ Checkpoint → StageCall b.layout.version stage at text result old new → Next stage b.work
-  checkpoint_makes stage at text pieces place is call = subst (Next stage) (sym is) (by_stage stage pieces call)
+  pub checkpoint_makes : (stage : Stage) (at : ℕ) (text : List ℕ) → (stage ≡ Body → ⊥) → (stage ≡ Retire → ⊥) → at ≡ other_at (account b) → b.work ≡ Checkpoint → StageCall b.layout.version stage at text result old new → Next stage b.work
+  checkpoint_makes stage at text pieces turned place is call = subst (Next stage) (sym is) (by_stage stage pieces turned call)
     where
       from : at ≡ gate_by Checkpoint seen
       from = place ∙ other_is disk b
 
-      by_stage : (s : Stage) → (s ≡ Body → ⊥) → StageCall b.layout.version s at text result old new → Next s Checkpoint
-      by_stage Idle not call = absurd call
-      by_stage Close not call = (refl, subst (λ (p : ℕ). Writes p (closed_gate b.layout.version ∷ []) result old new) from call)
-      by_stage CloseSync not call = call
-      by_stage Body not call = absurd (not refl)
-      by_stage BodySync not call = call
-      by_stage Gate not call = (refl, subst (λ (p : ℕ). Writes p (165 ∷ []) result old new) from call)
-      by_stage GateSync not call = call
-      by_stage Stopped not call = absurd call
+      by_stage : (s : Stage) → (s ≡ Body → ⊥) → (s ≡ Retire → ⊥) → StageCall b.layout.version s at text result old new → Next s Checkpoint
+      by_stage Idle not turned call = absurd call
+      by_stage Close not turned call = (refl, subst (λ (p : ℕ). Writes p (closed_gate b.layout.version ∷ []) result old new) from call)
+      by_stage CloseSync not turned call = call
+      by_stage Body not turned call = absurd (not refl)
+      by_stage BodySync not turned call = call
+      by_stage Gate not turned call = (refl, subst (λ (p : ℕ). Writes p (165 ∷ []) result old new) from call)
+      by_stage TurnSync not turned call = call
+      by_stage Retire not turned call = absurd (turned refl)
+      by_stage GateSync not turned call = call
+      by_stage Stopped not turned call = absurd call
+
+  -- .. and that of the half that stood
+  pub retire_makes : (at : ℕ) (text : List ℕ) → b.stage ≡ Retire → at ≡ half_at b.layout b.half → StageCall b.layout.version Retire at text result old new → Next b.stage b.work
+  retire_makes at text is place call =
+      subst (λ (s : Stage). Next s b.work) (sym is) (refl, subst (λ (p : ℕ). Writes p (closed_gate b.layout.version ∷ []) result old new) (place ∙ half_is b.layout b.half) call)
 
 -- as callers see it
 pub calls_of : {D : Type 0} (d : Disk.Ghosts D) (disk to : D) (b : Book) (k : KeeperView D) (result : Progress) → keeper_of disk b ≡ k → CallsOnce d (call_of (keeper_of disk b)) (payload_of (keeper_of disk b)) result disk to

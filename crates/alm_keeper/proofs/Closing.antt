@@ -5,7 +5,7 @@ use Rattle.alm_disk.specs.Device.{DeviceState, Writes, Syncs}
 use Rattle.alm_disk.specs.Device.{IsImage as IsLeft}
 use Rattle.alm_disk.proofs.Images.{synced_image}
 use Rattle.alm_codec.specs.Versions.{is_open, closed_gate}
-use Rattle.alm_checkpoint.specs.Layouts.{layout_byte, half_at, half_len, other}
+use Rattle.alm_checkpoint.specs.Layouts.{layout_byte, is_half_open, half_at, half_len, other}
 use Rattle.alm_checkpoint.specs.Cut.{Cut, Stores, Reaches, IsBelow, front, with_other, side_front, side_back}
 use Rattle.alm_checkpoint.specs.Cut.{device_of}
 use Rattle.alm_checkpoint.specs.declared.layout.Layout.{Layout}
@@ -17,23 +17,23 @@ use Rattle.alm_keeper.specs.Resting.{RestsBut, or_within}
 use Rattle.alm_keeper.specs.Phases.{with_other_shut, ClosesOther, Rested}
 use Rattle.alm_checkpoint.proofs.Grown.{gate_at}
 use Rattle.alm_checkpoint.proofs.Turned.{stores_other}
-use Rattle.alm_keeper.proofs.Gates.{closed_shut}
+use Rattle.alm_keeper.proofs.Gates.{half_shut}
 use Rattle.alm_keeper.proofs.Sides.{by_gate}
 use Rattle.alm_keeper.proofs.Resting.{any_gate, gate_rests, syncs_rest, resting}
 use Rattle.alm_keeper.proofs.Piecewise.{there, ahead_long}
 use Rattle.alm_keeper.proofs.Ending.{none, blind_none}
 
 -- only whether the gate is open counts
-same_beside : (l : Layout) (h : Half) (old new : ℕ) (fields : List ℕ) → is_open l.version old ≡ true → beside_from l h (old ∷ fields) ≡ Ok tt → beside_from l h (new ∷ fields) ≡ Ok tt
+same_beside : (l : Layout) (h : Half) (old new : ℕ) (fields : List ℕ) → is_half_open old ≡ true → beside_from l h (old ∷ fields) ≡ Ok tt → beside_from l h (new ∷ fields) ≡ Ok tt
 unfolding half_head_from
-same_beside l h old new fields was e = by_version (is_summed l.version) (is_open l.version new) (ap (λ (b : Bool). cond (is_summed l.version && b) (checked (half_head_from l h (old ∷ fields))) (Ok tt)) (sym was) ∙ e)
+same_beside l h old new fields was e = by_version (is_summed l.version) (is_half_open new) (ap (λ (b : Bool). cond (is_summed l.version && b) (checked (half_head_from l h (old ∷ fields))) (Ok tt)) (sym was) ∙ e)
   where
     by_version : (summed gate : Bool) → cond (summed && true) (checked (half_head_from l h (old ∷ fields))) (Ok tt) ≡ Ok tt → cond (summed && gate) (checked (half_head_from l h (new ∷ fields))) (Ok tt) ≡ Ok tt
     by_version true true e = e
     by_version true false e = refl
     by_version false gate e = refl
 
-module _ (c : Cut) (plant : Condensed) (gate : ℕ) (tail : List ℕ) (stores : Stores c plant) (closed : is_open c.version gate ≡ false) (reaches : Reaches c (gate ∷ tail)) (opened : is_open c.layout.version (layout_byte c.other 0) ≡ true) where
+module _ (c : Cut) (plant : Condensed) (gate : ℕ) (tail : List ℕ) (stores : Stores c plant) (closed : is_open c.version gate ≡ false) (reaches : Reaches c (gate ∷ tail)) (opened : is_half_open (layout_byte c.other 0) ≡ true) where
   abbrev ahead : List ℕ
   ahead = side_front c c.half (gate ∷ tail)
 
@@ -79,7 +79,7 @@ module _ (c : Cut) (plant : Condensed) (gate : ℕ) (tail : List ℕ) (stores : 
       let place : length (front c) ≡ length (front (with_other c (shut ∷ body))) = omega (arith, gate_at c plant (gate ∷ tail) stores reaches, gate_at (with_other c (shut ∷ body)) plant (gate ∷ tail) (with_gate shut) reaches) in
       record {
         cut = with_other c (shut ∷ body);
-        is = λ i. record { layout = c.layout; half = c.half; other_open = sym (closed_shut c.layout.version) i; version = c.version; epoch = c.epoch; gate = place i; plant = plant };
+        is = λ i. record { layout = c.layout; half = c.half; other_open = sym (half_shut c.layout.version) i; version = c.version; epoch = c.epoch; gate = place i; plant = plant };
         stores = with_gate shut;
         gate = gate;
         closed = closed;

@@ -16,11 +16,11 @@ use Rattle.alm_checkpoint.proofs.Shown.{image_is_long}
 pub frame_long : (version : Version) (epoch first : ℕ) (actions : List Asked) → length (frame_text version epoch first actions) ≡ 18 + 16 * length actions
 frame_long version epoch first actions = text_length version epoch first actions
 
-pub half_long : (c : Cut) (plant : Condensed) → Stores c plant → length (half_text c.layout c.half c.version c.half_gate c.epoch c.base c.frames) ≡ 25 + image_size c.layout + length (frames_text c.version c.epoch c.base.panel.count c.frames)
+pub half_long : (c : Cut) (plant : Condensed) → Stores c plant → length (half_text c.layout c.half c.version c.epoch c.base c.frames) ≡ 25 + image_size c.layout + length (frames_text c.version c.epoch c.base.panel.count c.frames)
 half_long c plant stores = omega (
   arith,
   image_is_long c.layout c.base stores.sizes stores.image,
   head_long c.layout c.half (head_before c.version c.epoch c.base),
-  length-append ((c.half_gate ∷ half_head_text c.layout c.half (head_before c.version c.epoch c.base)) ++ image_text c.base) (frames_text c.version c.epoch c.base.panel.count c.frames),
-  length-append (c.half_gate ∷ half_head_text c.layout c.half (head_before c.version c.epoch c.base)) (image_text c.base),
+  length-append ((165 ∷ half_head_text c.layout c.half (head_before c.version c.epoch c.base)) ++ image_text c.base) (frames_text c.version c.epoch c.base.panel.count c.frames),
+  length-append (165 ∷ half_head_text c.layout c.half (head_before c.version c.epoch c.base)) (image_text c.base),
 )

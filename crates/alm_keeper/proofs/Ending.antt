@@ -1,13 +1,13 @@
 -- The end of an open checkpoint: all of its run went out.
 use Rattle.std.proofs.Common.{◌≡◌, ℕ, ◌+◌, ◌≤◌, Bool, true, false, List, [], ◌∷◌, ◌++◌, length, take, drop, refl, sym, ◌∙◌, ap, subst, arith, append_assoc, length-append}
-use Rattle.std.proofs.lemmas.Bool.{or_parts}
+use Rattle.std.proofs.lemmas.Bool.{or_parts, eqb-true}
 use Rattle.std.proofs.lemmas.List.{append-nil, ext_get_or, take_at}
 use Rattle.alm_codec.specs.Versions.{is_open, closed_gate, newer}
 use Rattle.alm_model.specs.Plant.{Condensed}
 use Rattle.alm_codec.specs.Image.{image_text}
 use Rattle.alm_disk.specs.Device.{DeviceState}
 use Rattle.alm_disk.specs.Device.{IsImage as IsLeft}
-use Rattle.alm_checkpoint.specs.Layouts.{layout_byte, part, half_at, half_len, other}
+use Rattle.alm_checkpoint.specs.Layouts.{layout_byte, is_half_open, part, half_at, half_len, other}
 use Rattle.alm_checkpoint.specs.Headers.{half_head_text}
 use Rattle.alm_checkpoint.specs.Cut.{Cut, Stores, Reaches, head_before, half_text, front, turned_with, side_front, side_back}
 use Rattle.alm_checkpoint.specs.Cut.{device_of}
@@ -17,8 +17,7 @@ use Rattle.alm_keeper.specs.Resting.{RestsBut, Blind, Guarded, Kept}
 use Rattle.alm_keeper.specs.declared.stage.Stage.TheVariants.{BodySync}
 use Rattle.alm_keeper.specs.Piecewise.{Copy, since_text, open_text, run_text, IsCopy, is_sent, Paused, turned_by}
 use Rattle.alm_checkpoint.proofs.Grown.{gate_at}
-use Rattle.alm_checkpoint.proofs.HeaderLaws.{gates_same}
-use Rattle.alm_checkpoint.proofs.Turned.{newer_allowed, turns_with, stores_turned_with}
+use Rattle.alm_checkpoint.proofs.Turned.{turns_with, stores_turned_with}
 use Rattle.alm_keeper.proofs.Gates.{closed_shut}
 use Rattle.alm_keeper.proofs.Sides.{regroup, regroup_half}
 use Rattle.alm_keeper.proofs.Piecewise.{there, ahead_long, ready_with, left_long, here, front_is, room_long}
@@ -53,54 +52,51 @@ module _ (c : Cut) (plant : Condensed) (gate : ℕ) (tail : List ℕ) (stores : 
   left_is : 1 + (n + length left) ≡ half_len c.layout
   left_is = left_long c plant gate tail stores closed reaches n within copy.shut
 
-  -- the other half, with any open gate
-  module _ (own : ℕ) (opened : is_open (newer c.version) own ≡ true) where
-    abbrev turned_cut : Cut
-    turned_cut = turned_with c k.base own k.since (gate ∷ tail)
+  abbrev turned_cut : Cut
+  turned_cut = turned_with c k.base k.since (gate ∷ tail)
 
-    abbrev next : ℕ
-    next = closed_gate (newer c.version)
+  abbrev next : ℕ
+  next = closed_gate (newer c.version)
 
-    turned_stores : Stores turned_cut plant
-    turned_stores = stores_turned_with c plant k.base own k.since (gate ∷ tail) stores opened reaches copy.more copy.image copy.sizes copy.count copy.frames copy.admitted copy.runs
+  turned_stores : Stores turned_cut plant
+  turned_stores = stores_turned_with c plant k.base k.since (gate ∷ tail) stores reaches copy.more copy.image copy.sizes copy.count copy.frames copy.admitted copy.runs
 
-    turned_reaches : Reaches turned_cut (next ∷ left)
-    turned_reaches = omega (arith, left_is, run_long (account_of c plant) k copy)
+  turned_reaches : Reaches turned_cut (next ∷ left)
+  turned_reaches = omega (arith, left_is, run_long (account_of c plant) k copy)
 
-    turned_ready : Ready (turned_by (account_of c plant) k) (ahead ++ (own ∷ run) ++ (left ++ rear))
-    turned_ready = record {
-      cut = turned_cut;
-      is = λ i. record { layout = c.layout; half = other c.half; other_open = sym was_open i; version = newer c.version; epoch = c.epoch + 1; gate = place i; plant = plant };
-      stores = turned_stores;
-      gate = next;
-      closed = closed_shut (newer c.version);
-      tail = left;
-      reaches = turned_reaches;
-      text = regroup_half own next ahead (half_head_text c.layout (other c.half) (head_before (newer c.version) (c.epoch + 1) k.base)) (image_text k.base) (since_text (account_of c plant) k) left rear
-          ∙ sym (there c plant gate tail stores closed reaches (half_text c.layout (other c.half) (newer c.version) own (c.epoch + 1) k.base k.since ++ (next ∷ left)))
-          ∙ turns_with c k.base own k.since (gate ∷ tail) (next ∷ left);
-    }
-      where
-        place : half_at c.layout (other c.half) + 1 + length (open_text (account_of c plant) k) ≡ length (front turned_cut)
-        place = omega (arith, gate_at turned_cut plant (next ∷ left) turned_stores turned_reaches, left_is, length-append (open_text (account_of c plant) k) (next ∷ []))
+  -- the other half with an open gate
+  turned_ready : Ready (turned_by (account_of c plant) k) (ahead ++ (165 ∷ run) ++ (left ++ rear))
+  turned_ready = record {
+    cut = turned_cut;
+    is = λ i. record { layout = c.layout; half = other c.half; other_open = true; version = newer c.version; epoch = c.epoch + 1; gate = place i; plant = plant };
+    stores = turned_stores;
+    gate = next;
+    closed = closed_shut (newer c.version);
+    tail = left;
+    reaches = turned_reaches;
+    text = regroup_half 165 next ahead (half_head_text c.layout (other c.half) (head_before (newer c.version) (c.epoch + 1) k.base)) (image_text k.base) (since_text (account_of c plant) k) left rear
+        ∙ sym (there c plant gate tail stores closed reaches (half_text c.layout (other c.half) (newer c.version) (c.epoch + 1) k.base k.since ++ (next ∷ left)))
+        ∙ turns_with c k.base k.since (gate ∷ tail) (next ∷ left);
+  }
+    where
+      place : half_at c.layout (other c.half) + 1 + length (open_text (account_of c plant) k) ≡ length (front turned_cut)
+      place = omega (arith, gate_at turned_cut plant (next ∷ left) turned_stores turned_reaches, left_is, length-append (open_text (account_of c plant) k) (next ∷ []))
 
-        was_open : is_open c.layout.version c.half_gate ≡ true
-        was_open = gates_same c.layout.version c.version c.half_gate stores.version ∙ stores.opened
-
-  held : (g : ℕ) → is_open c.layout.version g ≡ false → (mid : List ℕ) → length mid ≡ n → Ready (account_of c plant) (ahead ++ (g ∷ mid) ++ (left ++ rear))
+  held : (g : ℕ) → is_half_open g ≡ false → (mid : List ℕ) → length mid ≡ n → Ready (account_of c plant) (ahead ++ (g ∷ mid) ++ (left ++ rear))
   held g shut mid long = subst (Ready (account_of c plant)) (sym (regroup ahead mid left rear g))
       (ready_with c plant gate tail stores closed reaches copy.shut (g ∷ (mid ++ left)) (omega (arith, long, left_is, length-append mid left)) shut)
 
   pub guarded : Guarded none (Ready (account_of c plant)) (Ready (turned_by (account_of c plant) k)) (half_at c.layout (other c.half)) run
   guarded = record {
-    version = c.layout.version;
+    opens = is_half_open;
+    written = refl;
     front = ahead;
     room = run;
     back = left ++ rear;
     place = sym (ahead_long c plant gate tail stores closed reaches);
     fits = refl;
     closed = held;
-    whole = λ own opened. turned_ready own (sym (gates_same c.layout.version (newer c.version) own (newer_allowed c.layout.version c.version stores.version)) ∙ opened);
+    whole = λ own opened. subst (λ (g : ℕ). Ready (turned_by (account_of c plant) k) (ahead ++ (g ∷ run) ++ (left ++ rear))) (sym (eqb-true own 165 opened)) turned_ready;
     blind_before = blind_none (Ready (account_of c plant));
     blind_after = blind_none (Ready (turned_by (account_of c plant) k));
   }

@@ -21,7 +21,7 @@ use Rattle.alm_checkpoint.specs.Headers.{header_text, half_head_text, of_rows, a
 use Rattle.alm_checkpoint.specs.Cut.{Cut, IsLayout, Stores, head_before, device_of}
 use Rattle.alm_checkpoint.proofs.HeaderLaws.{head_long}
 use Rattle.alm_checkpoint.proofs.Turned.{shut_beside}
-use Rattle.alm_keeper.proofs.Gates.{closed_shut, written_open}
+use Rattle.alm_keeper.proofs.Gates.{closed_shut, half_shut}
 use Rattle.alm_checkpoint.proofs.Shown.{shown, shown_opens}
 use Rattle.alm_segment.proofs.Segments.{folds}
 use Rattle.alm_keeper.specs.Formatting.{IsLongest, IsLongestFor, IsNewDevice, IsWritten, Leaves, LeavesOf, overwritten, with_empty_half, with_open_gate, first_half, IsOfVersion}
@@ -167,7 +167,7 @@ own_version V03 = refl
 
 -- the new device
 fresh : Layout → Condensed → List ℕ → List ℕ → Cut
-fresh l q other rest = record { layout = l; half = First; version = l.version; half_gate = 165; epoch = 1; base = q; frames = []; other = other; rest = rest }
+fresh l q other rest = record { layout = l; half = First; version = l.version; epoch = 1; base = q; frames = []; other = other; rest = rest }
 
 -- the new plant of a table has its alarms and areas
 new_rows : (t : Listing) → length (new_plant t).panel.rows ≡ length t.alarms
@@ -234,7 +234,6 @@ module _ (size : ℕ) (q : Condensed) (l : Layout) (rules : KeepsRules q) (few :
   fresh_stores o rest long = record {
     layout = layout_in;
     version = own_version l.version;
-    opened = written_open l.version;
     epoch = omega arith;
     image = record { rules = rules; fits = (let s = rules.stamps in omega (arith, s, few)); text = refl };
     sizes = new_sizes;
@@ -244,7 +243,7 @@ module _ (size : ℕ) (q : Condensed) (l : Layout) (rules : KeepsRules q) (few :
     admitted = tt;
     runs = refl;
     size = omega (arith, long);
-    below = record { older = inl (closed_shut l.version); whole = shut_beside l Second (shut ∷ o) (closed_shut l.version) };
+    below = record { older = inl (half_shut l.version); whole = shut_beside l Second (shut ∷ o) (half_shut l.version) };
   }
 
   fresh_stands : (s o rest : List ℕ) → length s + 1 ≡ l.segment → length o + 1 ≡ half_len l → IsNewDevice size q (device_of (fresh l q (shut ∷ o) rest) (shut ∷ s))

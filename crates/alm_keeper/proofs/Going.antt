@@ -12,14 +12,16 @@ use Rattle.alm_checkpoint.specs.declared.layout.Layout.{Layout}
 use Rattle.alm_checkpoint.specs.Layouts.{half_at, half_len, device_len}
 use Rattle.alm_keeper.specs.declared.book.Book.{Book}
 use Rattle.alm_keeper.specs.declared.stage.Stage.{Stage}
-use Rattle.alm_keeper.specs.declared.stage.Stage.TheVariants.{Idle, Close, CloseSync, Body, BodySync, Gate, GateSync, Stopped}
+use Rattle.alm_keeper.specs.declared.stage.Stage.TheVariants.{Idle, Close, CloseSync, Body, BodySync, Gate, TurnSync, Retire, GateSync, Stopped}
 use Rattle.alm_store.specs.declared.progress.Progress.{Progress}
 use Rattle.alm_store.specs.declared.progress.Progress.TheVariants.{More, Done, Failed}
 use Rattle.alm_keeper.specs.declared.stage.Work.{Work}
 use Rattle.alm_keeper.specs.declared.stage.Work.TheVariants.{Commit, Checkpoint}
-use Rattle.alm_keeper.specs.Stages.{IsWorking, rest_stage, rest_work, During}
-use Rattle.alm_keeper.specs.Stand.{HoldsPlant, Ready, Account, other_at, with_commit, turned_half}
-use Rattle.alm_keeper.specs.Piecewise.{Copy, IsCopy, open_text, run_text, turned_by, with_copied_frame, with_sent_bytes}
+use Rattle.alm_keeper.specs.Stages.{IsWorking, turn_stage, rest_stage, rest_work, During}
+use Rattle.alm_checkpoint.specs.Headers.{is_summed}
+use Rattle.alm_checkpoint.proofs.Turned.{twice_other}
+use Rattle.alm_keeper.specs.Stand.{HoldsPlant, HoldsIt, Account, other_at, with_commit, turned_half}
+use Rattle.alm_keeper.specs.Piecewise.{Copy, IsCopy, open_text, run_text, ended_by, with_copied_frame, with_sent_bytes}
 use Rattle.alm_keeper.specs.Phases.{Rest, Pause, End, KeptIn, StageCall, MakesCall, DuringIn, next_work, next_account}
 use Rattle.alm_keeper.specs.Keeping.{account, run_in, piece_of, done_by, account_next_at, account_next, InOrder, ClosesBook, TurnsBook, GrowsBook, GrowsWhere, IsBookAfter, sent_by, work_alone, work_beside, at_out, KeptBy, Keeps, PassesBy, PassesOn, MayLeave, EndsStep}
 use Rattle.alm_keeper.proofs.Carried.{open_grows, frame_is}
@@ -33,7 +35,7 @@ half_within l First size fits = omega (arith, fits)
 half_within l Second size fits = omega (arith, fits)
 
 -- a run by its length
-pub turned_is : (a : Account) (k : Copy) (n : ℕ) → length (run_text a k) ≡ n → turned_by a k ≡ turned_half a n
+pub turned_is : (a : Account) (k : Copy) (n : ℕ) → length (run_text a k) ≡ n → ended_by a k ≡ turned_half a n
 turned_is a k n long = ap (λ (gate : ℕ). record (turned_half a n) { gate = gate }) place
   where
     place : other_at a + 1 + length (open_text a k) ≡ other_at a + n
@@ -47,6 +49,8 @@ never_alone CloseSync may = absurd may
 never_alone Body may = absurd may
 never_alone BodySync may = absurd may
 never_alone Gate may = absurd may
+never_alone TurnSync may = absurd may
+never_alone Retire may = absurd may
 never_alone GateSync may = absurd may
 never_alone Stopped may = absurd may
 
@@ -68,6 +72,8 @@ module _ (result : Result Unit DiskFault) (a : Account) (actions : List Asked) (
   alone_call Body call = call
   alone_call BodySync call = call
   alone_call Gate call = call
+  alone_call TurnSync call = call
+  alone_call Retire call = call
   alone_call GateSync call = call
   alone_call Stopped call = absurd call
 
@@ -78,19 +84,26 @@ module _ (result : Result Unit DiskFault) (a : Account) (actions : List Asked) (
   commit_call k Body may call = call
   commit_call k BodySync may call = call
   commit_call k Gate may call = call
+  commit_call k TurnSync may call = absurd may
+  commit_call k Retire may call = absurd may
   commit_call k GateSync may call = call
   commit_call k Stopped may call = absurd may
 
-  -- of a checkpoint, except for its pieces
-  pub checkpoint_call : (k : Copy) (stage : Stage) → (stage ≡ Body → ⊥) → StageCall a.layout.version stage (other_at a) [] result old new → MakesCall (work_beside stage Checkpoint k actions) a n result old new
-  checkpoint_call k Idle pieces call = absurd call
-  checkpoint_call k Close pieces call = call
-  checkpoint_call k CloseSync pieces call = call
-  checkpoint_call k Body pieces call = absurd (pieces refl)
-  checkpoint_call k BodySync pieces call = call
-  checkpoint_call k Gate pieces call = call
-  checkpoint_call k GateSync pieces call = call
-  checkpoint_call k Stopped pieces call = absurd call
+  -- of a checkpoint, except for its pieces and the gate of the half that stood
+  pub checkpoint_call : (k : Copy) (stage : Stage) → (stage ≡ Body → ⊥) → (stage ≡ Retire → ⊥) → StageCall a.layout.version stage (other_at a) [] result old new → MakesCall (work_beside stage Checkpoint k actions) a n result old new
+  checkpoint_call k Idle pieces turned call = absurd call
+  checkpoint_call k Close pieces turned call = call
+  checkpoint_call k CloseSync pieces turned call = call
+  checkpoint_call k Body pieces turned call = absurd (pieces refl)
+  checkpoint_call k BodySync pieces turned call = call
+  checkpoint_call k Gate pieces turned call = call
+  checkpoint_call k TurnSync pieces turned call = call
+  checkpoint_call k Retire pieces turned call = absurd (turned refl)
+  checkpoint_call k GateSync pieces turned call = call
+  checkpoint_call k Stopped pieces turned call = absurd call
+
+  pub retire_call : (k : Copy) → StageCall a.layout.version Retire (half_at a.layout a.half) [] result old new → MakesCall (End k Retire) a n result old new
+  retire_call k call = subst (λ (h : Half). Writes (half_at a.layout h) (closed_gate a.layout.version ∷ []) result old new) (sym (twice_other a.half)) call
 
   pub piece_call : (k : Copy) → k.out + n ≤ length (run_text a k) → Writes (other_at a + k.out + 1) (take n (drop k.out (run_text a k))) result old new → MakesCall (Pause k) a n result old new
   piece_call k within call =
@@ -106,6 +119,8 @@ module _ (b : Book) (state : DeviceState) where
   kept_alone Body work works kept = kept
   kept_alone BodySync work works kept = kept
   kept_alone Gate work works kept = kept
+  kept_alone TurnSync work works kept = kept
+  kept_alone Retire work works kept = kept
   kept_alone GateSync work works kept = kept
   kept_alone Stopped work works kept = absurd works
 
@@ -116,6 +131,8 @@ module _ (b : Book) (state : DeviceState) where
   kept_beside Body work works kept = kept
   kept_beside BodySync work works kept = kept
   kept_beside Gate work works kept = kept
+  kept_beside TurnSync work works kept = kept
+  kept_beside Retire work works kept = kept
   kept_beside GateSync work works kept = kept
   kept_beside Stopped work works kept = absurd works
 
@@ -146,11 +163,19 @@ module _ (result : Result Unit DiskFault) (old new : DeviceState) (b : Book) (i 
   never_without : b.work ≡ Checkpoint → b.copying ≡ false → ⊥
   never_without is off = never_alone b.stage (subst (λ (w : Work). Possible b.stage false w) is (subst (λ (o : Bool). Possible b.stage o b.work) off (possible b i works)))
 
-  pub checkpoint_passes : (at : ℕ) → b.work ≡ Checkpoint → (b.stage ≡ Body → ⊥) → at ≡ other_at a → StageCall b.layout.version b.stage at [] result old new → Keeps old b → PassesOn result old new b
-  checkpoint_passes at is pieces place call kept =
+  pub checkpoint_passes : (at : ℕ) → b.work ≡ Checkpoint → (b.stage ≡ Body → ⊥) → (b.stage ≡ Retire → ⊥) → at ≡ other_at a → StageCall b.layout.version b.stage at [] result old new → Keeps old b → PassesOn result old new b
+  checkpoint_passes at is pieces turned place call kept =
       let here : StageCall b.layout.version b.stage (other_at a) [] result old new = subst (λ (n : ℕ). StageCall b.layout.version b.stage n [] result old new) place call in
       by_copying b.copying (λ off. absurd (never_without is off))
-      (λ on k run. subst (λ (w : Work). MakesCall (work_beside b.stage w (at_out k b.out) acts) a (piece_of b) result old new) (sym is) (checkpoint_call result a acts (piece_of b) old new (at_out k b.out) b.stage pieces here)) kept
+      (λ on k run. subst (λ (w : Work). MakesCall (work_beside b.stage w (at_out k b.out) acts) a (piece_of b) result old new) (sym is) (checkpoint_call result a acts (piece_of b) old new (at_out k b.out) b.stage pieces turned here)) kept
+
+  pub retire_passes : (at : ℕ) → b.work ≡ Checkpoint → b.stage ≡ Retire → at ≡ half_at b.layout b.half → StageCall b.layout.version Retire at [] result old new → Keeps old b → PassesOn result old new b
+  retire_passes at is turned place call kept =
+      let here : StageCall b.layout.version Retire (half_at b.layout b.half) [] result old new = subst (λ (n : ℕ). StageCall b.layout.version Retire n [] result old new) place call in
+      by_copying b.copying (λ off. absurd (never_without is off))
+      (λ on k run.
+      subst (λ (w : Work). MakesCall (work_beside b.stage w (at_out k b.out) acts) a (piece_of b) result old new) (sym is)
+      (subst (λ (s : Stage). MakesCall (work_beside s Checkpoint (at_out k b.out) acts) a (piece_of b) result old new) (sym turned) (retire_call result a acts (piece_of b) old new (at_out k b.out) here))) kept
 
   pub piece_passes : (at : ℕ) (text : List ℕ) → b.work ≡ Checkpoint → b.stage ≡ Body → at ≡ other_at a + b.out → text ≡ take (piece_of b) (drop b.out (run_in b)) → b.out + piece_of b ≤ length (run_in b)
       → Writes (at + 1) text result old new → Keeps old b → PassesOn result old new b
@@ -177,6 +202,8 @@ next_is b stage is works = ap (λ (s : Stage). account_next_at s b.work b) is �
     by_stage Body works = refl
     by_stage BodySync works = refl
     by_stage Gate works = refl
+    by_stage TurnSync works = refl
+    by_stage Retire works = refl
     by_stage GateSync works = refl
     by_stage Stopped never = absurd never
 
@@ -186,7 +213,7 @@ module _ (a : Account) (actions : List Asked) (x : List ℕ) where
   Before b = HoldsPlant a.epoch a.plant b
 
   abbrev Committed : List ℕ → Type 0
-  Committed b = Ready (with_commit a actions) b
+  Committed b = HoldsIt (with_commit a actions) b
 
   pub leaves_alone : (stage : Stage) → IsWorking stage → DuringIn (work_alone stage actions) a x → During Before Committed stage x
   leaves_alone Idle works d = absurd works
@@ -194,8 +221,10 @@ module _ (a : Account) (actions : List Asked) (x : List ℕ) where
   leaves_alone CloseSync works d = ready_holds a x d
   leaves_alone Body works d = ready_holds a x d
   leaves_alone BodySync works d = ready_holds a x d
-  leaves_alone Gate works d = ⊎_elim (λ r. inl (ready_holds a x r)) inr d
-  leaves_alone GateSync works d = ⊎_elim (λ r. inl (ready_holds a x r)) inr d
+  leaves_alone Gate works d = ⊎_elim (λ r. inl (ready_holds a x r)) (λ r. inr (ready_holds (with_commit a actions) x r)) d
+  leaves_alone TurnSync works d = ⊎_elim (λ r. inl (ready_holds a x r)) (λ r. inr (ready_holds (with_commit a actions) x r)) d
+  leaves_alone Retire works d = ready_holds (with_commit a actions) x d
+  leaves_alone GateSync works d = ⊎_elim (λ r. inl (ready_holds a x r)) (λ r. inr (ready_holds (with_commit a actions) x r)) d
   leaves_alone Stopped works d = absurd works
 
   pub leaves_commit : (k : Copy) (stage : Stage) → Possible stage true Commit → DuringIn (work_beside stage Commit k actions) a x → During Before Committed stage x
@@ -204,25 +233,26 @@ module _ (a : Account) (actions : List Asked) (x : List ℕ) where
   leaves_commit k CloseSync may d = absurd may
   leaves_commit k Body may d = ready_holds a x d
   leaves_commit k BodySync may d = ready_holds a x d
-  leaves_commit k Gate may d = ⊎_elim (λ r. inl (ready_holds a x r)) inr d
-  leaves_commit k GateSync may d = ⊎_elim (λ r. inl (ready_holds a x r)) inr d
+  leaves_commit k Gate may d = ⊎_elim (λ r. inl (ready_holds a x r)) (λ r. inr (ready_holds (with_commit a actions) x r)) d
+  leaves_commit k TurnSync may d = absurd may
+  leaves_commit k Retire may d = absurd may
+  leaves_commit k GateSync may d = ⊎_elim (λ r. inl (ready_holds a x r)) (λ r. inr (ready_holds (with_commit a actions) x r)) d
   leaves_commit k Stopped may d = absurd may
 
-  module _ (k : Copy) (n : ℕ) (long : length (run_text a k) ≡ n) where
-    turns : Ready (turned_by a k) x → Ready (turned_half a n) x
-    turns r = subst (λ (y : Account). Ready y x) (turned_is a k n long) r
-
+  module _ (k : Copy) (n : ℕ) where
     abbrev Turned : List ℕ → Type 0
-    Turned b = Ready (turned_half a n) b
+    Turned b = HoldsIt (turned_half a n) b
 
     pub leaves_checkpoint : (stage : Stage) → Possible stage true Checkpoint → DuringIn (work_beside stage Checkpoint k actions) a x → During Before Turned stage x
     leaves_checkpoint Idle may d = absurd may
     leaves_checkpoint Close may d = d
     leaves_checkpoint CloseSync may d = d
     leaves_checkpoint Body may d = ready_holds a x d
-    leaves_checkpoint BodySync may d = ready_holds a x d
-    leaves_checkpoint Gate may d = ⊎_elim (λ r. inl (ready_holds a x r)) (λ r. inr (turns r)) d
-    leaves_checkpoint GateSync may d = ⊎_elim (λ r. inl (ready_holds a x r)) (λ r. inr (turns r)) d
+    leaves_checkpoint BodySync may d = d
+    leaves_checkpoint Gate may d = d
+    leaves_checkpoint TurnSync may d = d
+    leaves_checkpoint Retire may d = d
+    leaves_checkpoint GateSync may d = d
     leaves_checkpoint Stopped may d = absurd may
 
 pub either_by : (B A : List ℕ → Type 0) (x : List ℕ) (stage : Stage) → During B A stage x → IsWorking stage → B x ⊎ A x
@@ -232,6 +262,8 @@ either_by B A x CloseSync d works = inl d
 either_by B A x Body d works = inl d
 either_by B A x BodySync d works = inl d
 either_by B A x Gate d works = d
+either_by B A x TurnSync d works = d
+either_by B A x Retire d works = inr d
 either_by B A x GateSync d works = d
 either_by B A x Stopped d works = absurd works
 
@@ -248,22 +280,22 @@ module _ (b : Book) (i : InOrder b) (works : IsWorking b.stage) (result : Result
   Stored x = HoldsPlant b.epoch b.stored x
 
   abbrev Then : Work → List ℕ → Type 0
-  Then work x = Ready (done_by work b) x
+  Then work x = HoldsIt (done_by work b) x
 
   moment_by : (x : List ℕ) (copying : Bool) (work : Work) → b.copying ≡ copying → Possible b.stage copying work → PassesBy copying b.stage work b result old new → IsImage old x ⊎ IsImage new x → During Stored (Then work) b.stage x
   moment_by x false Commit is may p moment = leaves_alone (account b) b.actions.items x b.stage works (p.any_moment x moment)
   moment_by x false Checkpoint is may p moment = absurd (never_alone b.stage may)
   moment_by x true Commit is may p moment = leaves_commit (account b) b.actions.items x (at_out p.0 b.out) b.stage may (p.3.any_moment x moment)
   moment_by x true Checkpoint is may p moment =
-      leaves_checkpoint (account b) b.actions.items x (at_out p.0 b.out) b.run (ap length p.1 ∙ run_size b i works is) b.stage may (p.3.any_moment x moment)
+      leaves_checkpoint (account b) b.actions.items x (at_out p.0 b.out) b.run b.stage may (p.3.any_moment x moment)
 
   during : (x : List ℕ) → PassesOn result old new b → IsImage old x ⊎ IsImage new x → During Stored (Then b.work) b.stage x
   during x p moment = moment_by x b.copying b.work refl (possible b i works) p moment
 
   pub leaves_of : (x : List ℕ) → PassesOn result old new b → IsImage old x ⊎ IsImage new x → MayLeave b x
-  leaves_of x p moment = subst (λ (y : Account). During Stored (Ready y) b.stage x) (sym (next_is b b.stage refl works)) (during x p moment)
+  leaves_of x p moment = subst (λ (y : Account). During Stored (HoldsIt y) b.stage x) (sym (next_is b b.stage refl works)) (during x p moment)
 
-  stopped : (x : List ℕ) (w : Work) → Ready (done_by w b) x → Ready (done_by w (record b { stage = Stopped })) x
+  stopped : (x : List ℕ) (w : Work) → HoldsIt (done_by w b) x → HoldsIt (done_by w (record b { stage = Stopped })) x
   stopped x Commit r = r
   stopped x Checkpoint r = r
 
@@ -318,6 +350,8 @@ module _ (step : Progress) (old new : Book) (state : DeviceState) (i : InOrder o
   goes_alone Body off is may goes kept = moved (record old { stage = BodySync }) goes.1 (as_book (record old { stage = BodySync }) BodySync false Commit refl off is kept)
   goes_alone BodySync off is may goes kept = moved (record old { stage = Gate }) goes.1 (as_book (record old { stage = Gate }) Gate false Commit refl off is kept)
   goes_alone Gate off is may goes kept = moved (record old { stage = GateSync }) goes.1 (as_book (record old { stage = GateSync }) GateSync false Commit refl off is kept)
+  goes_alone TurnSync off is may goes kept = absurd may
+  goes_alone Retire off is may goes kept = absurd may
   goes_alone GateSync off is may goes kept = commit_closes goes.1 off kept
   goes_alone Stopped off is may goes kept = absurd may
 
@@ -339,6 +373,8 @@ module _ (step : Progress) (old new : Book) (state : DeviceState) (i : InOrder o
         again Body on x = x
         again BodySync on x = x
         again Gate on x = x
+        again TurnSync on x = x
+        again Retire on x = x
         again GateSync on x = x
         again Stopped never x = absurd never
 
@@ -357,6 +393,8 @@ module _ (step : Progress) (old new : Book) (state : DeviceState) (i : InOrder o
     goes_commit was Body is may goes before kept = to_stage BodySync Commit tt is (k, run, kept) goes.1
     goes_commit was BodySync is may goes before kept = to_stage Gate Commit tt is (k, run, kept) goes.1
     goes_commit was Gate is may goes before kept = to_stage GateSync Commit tt is (k, run, kept) goes.1
+    goes_commit was TurnSync is may goes before kept = absurd may
+    goes_commit was Retire is may goes before kept = absurd may
     goes_commit was GateSync is may goes before kept = resumes goes.1 before.1.0 kept
     goes_commit was Stopped is may goes before kept = absurd may
 
@@ -372,8 +410,12 @@ module _ (step : Progress) (old new : Book) (state : DeviceState) (i : InOrder o
     sends is goes kept =
         moved (sent_by (piece_of old) old) goes (by_place (old.out + piece_of old == old.run) is refl (subst (λ (n : ℕ). Placed (old.out + piece_of old == n)) (ap length run ∙ run_size old i works on) kept))
 
-    turned_rest : TurnsBook old new → KeptIn Rest (turned_by (account old) here) state → Keeps state new
-    turned_rest t kept = rested new (turned_by (account old) here) state t.stage t.copying (t.account ∙ sym (turned_is (account old) here old.run (ap length run ∙ run_size old i works on))) kept
+    turned_rest : TurnsBook old new → KeptIn Rest (ended_by (account old) here) state → Keeps state new
+    turned_rest t kept = rested new (ended_by (account old) here) state t.stage t.copying (t.account ∙ sym (turned_is (account old) here old.run (ap length run ∙ run_size old i works on))) kept
+
+    by_turn : (b : Bool) → old.work ≡ Checkpoint → new ≡ record old { stage = turn_stage b } → KeptIn (End here (turn_stage b)) (account old) state → Keeps state new
+    by_turn true is goes kept = to_stage TurnSync Checkpoint tt is (k, run, kept) goes
+    by_turn false is goes kept = to_stage GateSync Checkpoint tt is (k, run, kept) goes
 
     goes_checkpoint : (stage : Stage) → old.work ≡ Checkpoint → Possible stage true Checkpoint → IsBookAfter stage Checkpoint step old new → Next stage Checkpoint → Keeps state new
     goes_checkpoint Idle is may goes kept = absurd may
@@ -382,7 +424,9 @@ module _ (step : Progress) (old new : Book) (state : DeviceState) (i : InOrder o
         moved (record old { stage = Body; other_open = false }) goes.1 (as_book (record old { stage = Body; other_open = false }) Body true Checkpoint refl on is (k, run, kept))
     goes_checkpoint Body is may goes kept = sends is goes.1 kept
     goes_checkpoint BodySync is may goes kept = to_stage Gate Checkpoint tt is (k, run, kept) goes.1
-    goes_checkpoint Gate is may goes kept = to_stage GateSync Checkpoint tt is (k, run, kept) goes.1
+    goes_checkpoint Gate is may goes kept = by_turn (is_summed old.version) is goes.1 kept
+    goes_checkpoint TurnSync is may goes kept = to_stage Retire Checkpoint tt is (k, run, kept) goes.1
+    goes_checkpoint Retire is may goes kept = to_stage GateSync Checkpoint tt is (k, run, kept) goes.1
     goes_checkpoint GateSync is may goes kept = turned_rest goes.1 kept
     goes_checkpoint Stopped is may goes kept = absurd may
 
@@ -410,7 +454,10 @@ not_failed CloseSync work step old new goes = told step More goes.0 (λ f. f)
 not_failed Body Commit step old new goes = told step More goes.0 (λ f. f)
 not_failed Body Checkpoint step old new goes = told step More goes.0 (λ f. f)
 not_failed BodySync work step old new goes = told step More goes.0 (λ f. f)
-not_failed Gate work step old new goes = told step More goes.0 (λ f. f)
+not_failed Gate Commit step old new goes = told step More goes.0 (λ f. f)
+not_failed Gate Checkpoint step old new goes = told step More goes.0 (λ f. f)
+not_failed TurnSync work step old new goes = told step More goes.0 (λ f. f)
+not_failed Retire work step old new goes = told step More goes.0 (λ f. f)
 not_failed GateSync work step old new goes = told step Done goes.0 (λ f. f)
 not_failed Stopped work step old new goes = told step More goes.0 (λ f. f)
 
@@ -427,7 +474,10 @@ gone_layout CloseSync work step old new g = ap (λ (b : Book). b.layout) g.1
 gone_layout Body Commit step old new g = ap (λ (b : Book). b.layout) g.1
 gone_layout Body Checkpoint step old new g = ap (λ (b : Book). b.layout) g.1
 gone_layout BodySync work step old new g = ap (λ (b : Book). b.layout) g.1
-gone_layout Gate work step old new g = ap (λ (b : Book). b.layout) g.1
+gone_layout Gate Commit step old new g = ap (λ (b : Book). b.layout) g.1
+gone_layout Gate Checkpoint step old new g = ap (λ (b : Book). b.layout) g.1
+gone_layout TurnSync work step old new g = ap (λ (b : Book). b.layout) g.1
+gone_layout Retire work step old new g = ap (λ (b : Book). b.layout) g.1
 gone_layout GateSync Commit step old new g = ap (λ (a : Account). a.layout) g.1.account
 gone_layout GateSync Checkpoint step old new g = ap (λ (a : Account). a.layout) g.1.account
 gone_layout Stopped work step old new g = ap (λ (b : Book). b.layout) g.1

@@ -37,3 +37,4 @@ pub mod StorePassing
 pub mod StorePacing
 pub mod Made
 pub mod StoreCalls
+pub mod Saying

@@ -2,14 +2,13 @@
 use Rattle.std.proofs.Common.{◌≡◌, inl, inr, ⊎_elim, ℕ, ◌^◌, ◌<◌, ◌≤◌, List, length, Result, Ok, Err, sym, ◌∙◌, ap, subst, arith}
 use Rattle.std.specs.Prelude.{OnOk, IfOk}
 use Rattle.alm_disk.specs.Device.{AreBytes}
-use Rattle.alm_codec.specs.Versions.{is_open}
 use Rattle.alm_checkpoint.specs.declared.layout.Layout.{Layout}
 use Rattle.alm_checkpoint.specs.declared.half.Half.{Half}
 use Rattle.alm_checkpoint.specs.declared.half_head.HalfHead.{HalfHead}
 use Rattle.alm_checkpoint.specs.declared.device_fault.DeviceFault.{DeviceFault}
 use Rattle.alm_checkpoint.specs.declared.device_fault.DeviceFault.TheVariants as found
 use Rattle.alm_checkpoint.specs.declared.restore_fault.RestoreFault.TheVariants as unrestored
-use Rattle.alm_checkpoint.specs.Layouts.{layout_byte, part, other, image_at, image_size, segment_at, device_len}
+use Rattle.alm_checkpoint.specs.Layouts.{layout_byte, is_half_open, part, other, image_at, image_size, segment_at, device_len}
 use Rattle.alm_checkpoint.specs.Cut.{front}
 use Rattle.alm_checkpoint.specs.Opening.{◌>>=◌, opened_half, layout_in, heads_in, gate_in, opened_in}
 use Rattle.alm_checkpoint.specs.Standing.{HasFault}
@@ -60,8 +59,8 @@ module _ (b : List ℕ) (l : Layout) (m : Marks) (bytes : AreBytes b) (header : 
   ready book h is =
       let c = cut_at b l m.half m.head h.base book.stored h.left bytes header marks.0 h.spells h.folds in
       let gate : book.gate ≡ length (front c.cut) = omega (arith, h.gate_is, c.gate_there) in
-      let beside : m.other_open ≡ is_open c.cut.layout.version (layout_byte c.cut.other 0) =
-      marks.1 ∙ ap (gate_in l.version) (head_is l b (other m.half)) ∙ c.of_other ∙ ap (λ (x : Layout). is_open x.version (layout_byte c.cut.other 0)) (sym c.of_layout) in
+      let beside : m.other_open ≡ is_half_open (layout_byte c.cut.other 0) =
+      marks.1 ∙ ap gate_in (head_is l b (other m.half)) ∙ c.of_other in
       record {
         cut = c.cut;
         is = is ∙ (λ i. record { layout = sym c.of_layout i; half = sym c.of_half i; other_open = beside i; version = sym c.of_version i; epoch = sym c.of_epoch i; gate = gate i; plant = book.stored });

@@ -17,7 +17,7 @@ use Rattle.alm_codec.proofs.Spelled.{image_length}
 use Rattle.alm_checkpoint.specs.Layouts.{image_size, head_len, device_len, segment_at}
 use Rattle.alm_keeper.specs.declared.book.Book.{Book}
 use Rattle.alm_keeper.specs.declared.stage.Stage.{Stage}
-use Rattle.alm_keeper.specs.declared.stage.Stage.TheVariants.{Idle, Close, CloseSync, Body, BodySync, Gate, GateSync, Stopped}
+use Rattle.alm_keeper.specs.declared.stage.Stage.TheVariants.{Idle, Close, CloseSync, Body, BodySync, Gate, TurnSync, Retire, GateSync, Stopped}
 use Rattle.alm_keeper.specs.declared.stage.Work.{Work}
 use Rattle.alm_keeper.specs.declared.stage.Work.TheVariants.{Commit, Checkpoint}
 use Rattle.alm_segment.specs.Course.{frame_len}
@@ -35,6 +35,10 @@ Possible Close true Checkpoint = Unit {0}
 Possible Close copying work = ⊥
 Possible CloseSync true Checkpoint = Unit {0}
 Possible CloseSync copying work = ⊥
+Possible TurnSync true Checkpoint = Unit {0}
+Possible TurnSync copying work = ⊥
+Possible Retire true Checkpoint = Unit {0}
+Possible Retire copying work = ⊥
 Possible stage false Checkpoint = ⊥
 Possible stage copying work = Unit {0}
 
@@ -62,6 +66,12 @@ possible b i works = by_stage b.stage b.copying b.work refl works i.does
     by_stage Gate true w is works d = tt
     by_stage Gate false Commit is works d = tt
     by_stage Gate false Checkpoint is works d = absurd (true≢false (sym (never false is d.0)))
+    by_stage TurnSync o Commit is works d = absurd d
+    by_stage TurnSync true Checkpoint is works d = tt
+    by_stage TurnSync false Checkpoint is works d = absurd (true≢false (sym (never false is d.0)))
+    by_stage Retire o Commit is works d = absurd d
+    by_stage Retire true Checkpoint is works d = tt
+    by_stage Retire false Checkpoint is works d = absurd (true≢false (sym (never false is d.0)))
     by_stage GateSync true w is works d = tt
     by_stage GateSync false Commit is works d = tt
     by_stage GateSync false Checkpoint is works d = absurd (true≢false (sym (never false is d.0)))
@@ -79,6 +89,10 @@ working b stage i is works = by_stage stage b.work works (subst (λ (s : Stage).
     by_stage Body w works d = d
     by_stage BodySync w works d = d
     by_stage Gate w works d = d
+    by_stage TurnSync Commit works d = absurd d
+    by_stage TurnSync Checkpoint works d = d
+    by_stage Retire Commit works d = absurd d
+    by_stage Retire Checkpoint works d = d
     by_stage GateSync w works d = d
     by_stage Stopped w never d = absurd never
 
@@ -87,6 +101,10 @@ commits b i works work = subst (λ (w : Work). DoesWork w b) work (working b b.s
 
 pub copies : (b : Book) → InOrder b → IsWorking b.stage → b.work ≡ Checkpoint → (b.copying ≡ true) × (b.ahead ≡ b.stored)
 copies b i works work = subst (λ (w : Work). DoesWork w b) work (working b b.stage i refl works)
+
+-- .. and only a checkpoint shuts the half that stood
+pub never_turned : (b : Book) → InOrder b → b.work ≡ Commit → b.stage ≡ Retire → ⊥
+never_turned b i is turned = subst (λ (w : Work). Does Retire w b) is (subst (λ (s : Stage). Does s b.work b) turned i.does)
 
 -- an open checkpoint
 pub opened : (b : Book) → InOrder b → IsWorking b.stage → b.copying ≡ true → OpenedBook b.stage b
@@ -100,6 +118,8 @@ opened b i works on = by_stage b.stage works (subst (λ (o : Bool). IsCopying o 
     by_stage Body works o = o
     by_stage BodySync works o = o
     by_stage Gate works o = o
+    by_stage TurnSync works o = o
+    by_stage Retire works o = o
     by_stage GateSync works o = o
 
 pub sent_at : (b : Book) (stage : Stage) (work : Work) → InOrder b → IsWorking stage → b.stage ≡ stage → b.work ≡ work → b.copying ≡ true → HasSent stage work b.out b.run
@@ -136,6 +156,10 @@ rests b idle i = by_stage b.stage b.work idle i.does
     by_stage BodySync Checkpoint idle d = absurd idle
     by_stage Gate Commit idle d = absurd idle
     by_stage Gate Checkpoint idle d = absurd idle
+    by_stage TurnSync Commit idle d = absurd idle
+    by_stage TurnSync Checkpoint idle d = absurd idle
+    by_stage Retire Commit idle d = absurd idle
+    by_stage Retire Checkpoint idle d = absurd idle
     by_stage GateSync Commit idle d = absurd idle
     by_stage GateSync Checkpoint idle d = absurd idle
 
@@ -154,6 +178,10 @@ module _ (b : Book) (i : InOrder b) (resting : IsResting (phase_of b.stage b.wor
   paused_at BodySync Checkpoint at is r on = absurd r
   paused_at Gate Commit at is r on = absurd r
   paused_at Gate Checkpoint at is r on = absurd r
+  paused_at TurnSync Commit at is r on = absurd r
+  paused_at TurnSync Checkpoint at is r on = absurd r
+  paused_at Retire Commit at is r on = absurd r
+  paused_at Retire Checkpoint at is r on = absurd r
   paused_at GateSync Commit at is r on = absurd r
   paused_at GateSync Checkpoint at is r on = absurd r
 
@@ -188,6 +216,10 @@ idle_stage BodySync Commit e = absurd cc
 idle_stage BodySync Checkpoint e = absurd cc
 idle_stage Gate Commit e = absurd cc
 idle_stage Gate Checkpoint e = absurd cc
+idle_stage TurnSync Commit e = absurd cc
+idle_stage TurnSync Checkpoint e = absurd cc
+idle_stage Retire Commit e = absurd cc
+idle_stage Retire Checkpoint e = absurd cc
 idle_stage GateSync Commit e = absurd cc
 idle_stage GateSync Checkpoint e = absurd cc
 
@@ -368,6 +400,8 @@ runs_by b i works is = (by_stage b.stage refl, omega (arith, o.room, i.first, i.
     by_stage Body at = omega (arith, sent Body at tt)
     by_stage BodySync at = omega (arith, sent BodySync at tt)
     by_stage Gate at = omega (arith, sent Gate at tt)
+    by_stage TurnSync at = omega (arith, sent TurnSync at tt)
+    by_stage Retire at = omega (arith, sent Retire at tt)
     by_stage GateSync at = omega (arith, sent GateSync at tt)
 
 -- a commit that is under way: its frame, and a piece of an open checkpoint is to come
@@ -385,6 +419,8 @@ frames_by b i works is = ((commits b i works is).spells.few, λ on. by_stage b.s
     by_stage Body at on = omega (arith, sent Body at tt on)
     by_stage BodySync at on = omega (arith, sent BodySync at tt on)
     by_stage Gate at on = omega (arith, sent Gate at tt on)
+    by_stage TurnSync at on = omega (arith, sent TurnSync at tt on)
+    by_stage Retire at on = omega (arith, sent Retire at tt on)
     by_stage GateSync at on = omega (arith, sent GateSync at tt on)
 
 -- if no work is under way no checkpoint is open, and one is if it is the work

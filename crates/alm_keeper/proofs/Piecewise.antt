@@ -6,7 +6,7 @@ use Rattle.alm_disk.specs.Device.{is_within}
 use Rattle.alm_disk.specs.Device.{byte_at as byte_of}
 use Rattle.alm_disk.proofs.Images.{middle}
 use Rattle.alm_codec.specs.Versions.{is_open}
-use Rattle.alm_checkpoint.specs.Layouts.{layout_byte, half_at, half_len, other}
+use Rattle.alm_checkpoint.specs.Layouts.{layout_byte, is_half_open, half_at, half_len, other}
 use Rattle.alm_checkpoint.specs.Cut.{Cut, Stores, Reaches, front, with_other, side_front, side_back}
 use Rattle.alm_checkpoint.specs.Cut.{device_of}
 use Rattle.alm_keeper.specs.Stand.{Account, account_of, Ready}
@@ -26,13 +26,13 @@ module _ (c : Cut) (plant : Condensed) (gate : ℕ) (tail : List ℕ) (stores : 
   rear = side_back c c.half (gate ∷ tail)
 
   pub there : (o : List ℕ) → device_of (with_other c o) (gate ∷ tail) ≡ ahead ++ o ++ rear
-  there o = beside c.layout c.half c.version c.half_gate c.epoch c.base c.frames c.other o c.rest (gate ∷ tail)
+  there o = beside c.layout c.half c.version c.epoch c.base c.frames c.other o c.rest (gate ∷ tail)
 
   pub ahead_long : length ahead ≡ half_at c.layout (other c.half)
   ahead_long = side_long c plant (gate ∷ tail) stores reaches c.half refl
 
   -- any other half after its closed gate
-  pub ready_with : is_open c.layout.version (layout_byte c.other 0) ≡ false → (o : List ℕ) → length o ≡ half_len c.layout → is_open c.layout.version (layout_byte o 0) ≡ false → Ready (account_of c plant) (ahead ++ o ++ rear)
+  pub ready_with : is_half_open (layout_byte c.other 0) ≡ false → (o : List ℕ) → length o ≡ half_len c.layout → is_half_open (layout_byte o 0) ≡ false → Ready (account_of c plant) (ahead ++ o ++ rear)
   ready_with old o long shut =
       let kept : Stores (with_other c o) plant = stores_other c plant o stores long (record { older = inl shut; whole = shut_beside c.layout (other c.half) o shut }) in
       let place : length (front c) ≡ length (front (with_other c o)) = omega (arith, gate_at c plant (gate ∷ tail) stores reaches, gate_at (with_other c o) plant (gate ∷ tail) kept reaches) in
@@ -48,7 +48,7 @@ module _ (c : Cut) (plant : Condensed) (gate : ℕ) (tail : List ℕ) (stores : 
       }
 
   -- the same with the bytes after that gate set apart
-  module _ (n : ℕ) (within : n + 1 ≤ half_len c.layout) (shut : is_open c.layout.version (layout_byte c.other 0) ≡ false) where
+  module _ (n : ℕ) (within : n + 1 ≤ half_len c.layout) (shut : is_half_open (layout_byte c.other 0) ≡ false) where
     abbrev room : List ℕ
     room = take n (drop 1 c.other)
 
@@ -88,7 +88,7 @@ module _ (c : Cut) (plant : Condensed) (gate : ℕ) (tail : List ℕ) (stores : 
 -- the places after the other half's closed gate
 pub ready_blind : (a : Account) (n : ℕ) → a.other_open ≡ false → n + 1 ≤ half_len a.layout → Blind (is_sent a n) (Ready a)
 ready_blind a n shut within b c r beside =
-    let shut_here : is_open r.cut.layout.version (layout_byte r.cut.other 0) ≡ false = ap (λ (y : Account). y.other_open) (sym r.is) ∙ shut in
+    let shut_here : is_half_open (layout_byte r.cut.other 0) ≡ false = ap (λ (y : Account). y.other_open) (sym r.is) ∙ shut in
     subst (λ (y : Account). Ready y c) (sym r.is)
     (blind r.cut a.plant r.gate r.tail r.stores r.closed r.reaches n (subst (λ (y : Account). n + 1 ≤ half_len y.layout) r.is within) shut_here c
     (subst (λ (x : List ℕ). IsBeside (is_sent (account_of r.cut a.plant) n) x c) r.text (subst (λ (y : Account). IsBeside (is_sent y n) b c) r.is beside)))

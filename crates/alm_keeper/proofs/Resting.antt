@@ -6,8 +6,6 @@ use Rattle.alm_disk.specs.Device.{DeviceState, IsImage, Writes, Syncs, byte_at, 
 use Rattle.alm_disk.proofs.Images.{synced_image}
 use Rattle.alm_disk.proofs.Places.{outside_cases}
 use Rattle.alm_keeper.specs.Resting.{RestsBut, or_within, IsBeside, Blind, Guarded, with_gate, Kept, Passes}
-use Rattle.alm_codec.specs.Versions.{is_open}
-use Rattle.alm_keeper.proofs.Gates.{written_open}
 use Rattle.alm_keeper.specs.Stages.{stage_after}
 use Rattle.alm_keeper.specs.declared.stage.Stage.TheVariants.{Body, BodySync, Gate, GateSync}
 
@@ -147,7 +145,7 @@ module _ (loose : ℕ → Bool) (Before After : List ℕ → Type 0) (at : ℕ) 
   blind_either before after b c = λ is beside. ⊎_elim (λ x. inl (before b c x beside)) (λ x. inr (after b c x beside)) is
 
   either : (k : Guarded loose Before After at text) (gate : ℕ) → Before (with_gate k gate text) ⊎ After (with_gate k gate text)
-  either k gate = elim (cases_Bool (is_open k.version gate)) [
+  either k gate = elim (cases_Bool (k.opens gate)) [
     | inl opened ↦ inr (k.whole gate opened)
     | inr shut ↦ inl (k.closed gate shut text (sym k.fits))
   ]
@@ -204,7 +202,7 @@ module _ {E : Type 0} (loose : ℕ → Bool) (Before After : List ℕ → Type 0
   gate_sync_goes (Ok _) kept syncs =
       let k = kept.stands.0 in
       let rests : RestsBut loose new (with_gate k 165 text) = syncs_rest (or_within at 1 loose) loose state new (with_gate k 165 text) kept.stands.1 syncs in
-      record { images = λ c image. resting loose new (with_gate k 165 text) c After k.blind_after rests (k.whole 165 (written_open k.version)) image; stands = (with_gate k 165 text, k.whole 165 (written_open k.version), rests) }
+      record { images = λ c image. resting loose new (with_gate k 165 text) c After k.blind_after rests (k.whole 165 k.written) image; stands = (with_gate k 165 text, k.whole 165 k.written, rests) }
   gate_sync_goes (Err e) kept syncs = record { images = λ c image. kept.images c (synced_image (Err e) state new c syncs image); stands = tt }
 
   -- the calls

@@ -13,11 +13,11 @@ use Rattle.alm_store.specs.declared.refused.Refused.TheVariants as no
 use Rattle.alm_store.specs.declared.progress.Progress.{Progress}
 use Rattle.alm_store.specs.declared.progress.Progress.TheVariants.{More, Done, Failed}
 use Rattle.alm_keeper.specs.declared.stage.Stage.{Stage}
-use Rattle.alm_keeper.specs.declared.stage.Stage.TheVariants.{Idle, Close, CloseSync, Body, BodySync, Gate, GateSync, Stopped}
+use Rattle.alm_keeper.specs.declared.stage.Stage.TheVariants.{Idle, Close, CloseSync, Body, BodySync, Gate, TurnSync, Retire, GateSync, Stopped}
 use Rattle.alm_keeper.specs.declared.stage.Work.{Work}
 use Rattle.alm_keeper.specs.declared.stage.Work.TheVariants.{Commit, Checkpoint}
-use Rattle.alm_keeper.specs.Stand.{Account, FitsFrame, TakesFrame, with_commit, turned_half, end_of_half}
-use Rattle.alm_keeper.specs.Keeper.{HasRoom, HasRoomFor as StandingTakes, with_actions, with_checkpoint, begun_standing, begun_by, next_by, after_frame, copied_after, after_call, after_by, BeginsCommit, BeginsCheckpoint, Progresses}
+use Rattle.alm_keeper.specs.Stand.{Account, FitsFrame, TakesFrame, IsAlone, with_commit, turned_half, end_of_half}
+use Rattle.alm_keeper.specs.Keeper.{HasRoom, HasRoomIn, with_actions, with_checkpoint, begun_standing, begun_by, next_by, after_frame, copied_after, after_call, after_by, BeginsCommit, BeginsCheckpoint, Progresses}
 use Rattle.alm_keeper.specs.Keeping.{account, copied_in, run_in, done_by, account_next_at, standing_by, keeper_of, Begins, Copies, ClosesBook, TurnsBook, GrowsWhere, IsBookAfter, EndsStep}
 
 -- a commit, a checkpoint
@@ -139,7 +139,10 @@ module _ {D : Type 0} (disk to : D) (old new : Book) where
   by_stage Body Commit step at is g = ap (keeper_of to) g.1
   by_stage Body Checkpoint step at is g = ap (keeper_of to) g.1
   by_stage BodySync work step at is g = ap (keeper_of to) g.1
-  by_stage Gate work step at is g = ap (keeper_of to) g.1
+  by_stage Gate Commit step at is g = ap (keeper_of to) g.1
+  by_stage Gate Checkpoint step at is g = ap (keeper_of to) g.1
+  by_stage TurnSync work step at is g = ap (keeper_of to) g.1
+  by_stage Retire work step at is g = ap (keeper_of to) g.1
   by_stage GateSync Commit step at is g = closes_seen g.1
   by_stage GateSync Checkpoint step at is g = turns_seen g.1
   by_stage Stopped work step at is g = ap (keeper_of to) g.1
@@ -159,7 +162,10 @@ module _ {D : Type 0} (disk to : D) (old new : Book) where
   is_done Body Commit g = absurd (subst IsMore (sym g.0) tt)
   is_done Body Checkpoint g = absurd (subst IsMore (sym g.0) tt)
   is_done BodySync work g = absurd (subst IsMore (sym g.0) tt)
-  is_done Gate work g = absurd (subst IsMore (sym g.0) tt)
+  is_done Gate Commit g = absurd (subst IsMore (sym g.0) tt)
+  is_done Gate Checkpoint g = absurd (subst IsMore (sym g.0) tt)
+  is_done TurnSync work g = absurd (subst IsMore (sym g.0) tt)
+  is_done Retire work g = absurd (subst IsMore (sym g.0) tt)
   is_done GateSync work g = refl
   is_done Stopped work g = absurd (subst IsMore (sym g.0) tt)
 
@@ -183,6 +189,8 @@ next_seen disk b CloseSync = begun_seen disk b b.work
 next_seen disk b Body = begun_seen disk b b.work
 next_seen disk b BodySync = begun_seen disk b b.work
 next_seen disk b Gate = begun_seen disk b b.work
+next_seen disk b TurnSync = begun_seen disk b b.work
+next_seen disk b Retire = begun_seen disk b b.work
 next_seen disk b GateSync = begun_seen disk b b.work
 next_seen disk b Stopped = begun_seen disk b b.work
 
@@ -193,8 +201,8 @@ room_seen a n fits = omega (arith, fits)
 pub room_of : (a : Account) (n : ℕ) → HasRoom (standing_by a) n → FitsFrame a n
 room_of a n room = omega (arith, room)
 
-pub takes_seen : (a : Account) (actions : List Action) → TakesFrame a actions → StandingTakes (standing_by a) actions
-takes_seen a actions takes = (room_seen a (length actions) takes.0, takes.1)
+pub takes_seen : (a : Account) (actions : List Action) → TakesFrame a actions → HasRoomIn (standing_by a) actions × IsAlone a.version a.other_open
+takes_seen a actions takes = ((room_seen a (length actions) takes.0, takes.1), takes.2)
 
-pub takes_of : (a : Account) (actions : List Action) → StandingTakes (standing_by a) actions → TakesFrame a actions
-takes_of a actions takes = (room_of a (length actions) takes.0, takes.1)
+pub takes_of : (a : Account) (actions : List Action) → HasRoomIn (standing_by a) actions × IsAlone a.version a.other_open → TakesFrame a actions
+takes_of a actions takes = (room_of a (length actions) takes.0.0, takes.0.1, takes.1)

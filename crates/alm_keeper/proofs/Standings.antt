@@ -7,30 +7,31 @@ use Rattle.alm_disk.specs.Settled.{IsSettled}
 use Rattle.alm_disk.proofs.Images.{settled_image}
 use Rattle.alm_segment.proofs.Segments.{folds}
 use Rattle.alm_checkpoint.specs.Standing.{Stands}
-use Rattle.alm_checkpoint.specs.Layouts.{half_len, image_size}
-use Rattle.alm_checkpoint.specs.Opening.{opened_in}
+use Rattle.alm_checkpoint.specs.Layouts.{half_len, image_size, other}
+use Rattle.alm_checkpoint.specs.Opening.{gate_in, head_of, opened_in}
 use Rattle.alm_checkpoint.specs.Cut.{device_of}
-use Rattle.alm_checkpoint.proofs.Shown.{shown, shown_opens, stands}
+use Rattle.alm_checkpoint.proofs.Shown.{shown, shown_opens, shown_beside, stands}
 use Rattle.alm_checkpoint.proofs.Grown.{gate_at}
 use Rattle.alm_keeper.specs.declared.book.Book.{Book}
 use Rattle.alm_keeper.specs.declared.stage.Stage.{Stage}
-use Rattle.alm_keeper.specs.declared.stage.Stage.TheVariants.{Idle, Close, CloseSync, Body, BodySync, Gate, GateSync, Stopped}
+use Rattle.alm_keeper.specs.declared.stage.Stage.TheVariants.{Idle, Close, CloseSync, Body, BodySync, Gate, TurnSync, Retire, GateSync, Stopped}
 use Rattle.alm_keeper.specs.declared.stage.Work.{Work}
 use Rattle.alm_keeper.specs.declared.stage.Work.TheVariants.{Commit, Checkpoint}
 use Rattle.alm_codec.specs.declared.asked.Asked.{Asked}
 use Rattle.alm_keeper.specs.Stages.{IsWorking, During, phase_of}
 use Rattle.alm_store.specs.Advancing.{IsResting}
-use Rattle.alm_keeper.specs.Stand.{HoldsPlant, Ready, Account, account_of, with_commit, turned_half}
-use Rattle.alm_keeper.specs.Piecewise.{Copy, run_text, turned_by}
-use Rattle.alm_keeper.specs.Phases.{KeptIn}
+use Rattle.alm_keeper.specs.Stand.{HoldsPlant, HoldsIt, Ready, Account, IsAlone, account_of, with_commit, turned_half}
+use Rattle.alm_keeper.specs.Piecewise.{Copy, turned_by}
+use Rattle.alm_checkpoint.specs.Headers.{is_summed}
+use Rattle.alm_keeper.specs.Phases.{KeptLast, KeptIn}
 use Rattle.alm_keeper.specs.Keeper.{Standing, KeeperView, IsStoredIn, StandsWithRoom, LiesIn, MayStand}
 use Rattle.alm_keeper.specs.Keeper.{next as next_seen_of}
 use Rattle.alm_keeper.specs.Keeper.{Progresses as AdvancesSeen}
 use Rattle.alm_store.specs.declared.progress.Progress.{Progress}
 use Rattle.alm_keeper.specs.Keeping.{account, done_by, account_next_at, account_next, work_alone, work_beside, at_out, standing_by, keeper_of, InOrder, KeptBy, Keeps, MayLeave, EndsStep}
 use Rattle.alm_keeper.proofs.Commit.{ready_holds}
-use Rattle.alm_keeper.proofs.Order.{Possible, possible, layout_limits, runs_by, frames_by, piece_by, copies_by}
-use Rattle.alm_keeper.proofs.Going.{turned_is, kept_alone, kept_beside, never_alone, next_is, run_size, rested}
+use Rattle.alm_keeper.proofs.Order.{Possible, possible, commits, layout_limits, runs_by, frames_by, piece_by, copies_by}
+use Rattle.alm_keeper.proofs.Going.{kept_alone, kept_beside, never_alone, next_is, rested}
 use Rattle.alm_keeper.proofs.Starting.{AtRest, Idles, Pauses, at_rest, rest_ready}
 use Rattle.alm_keeper.proofs.Seen.{next_seen, ends_seen}
 
@@ -65,12 +66,13 @@ ready_room a b r =
     left = omega (arith, gate_at r.cut a.plant (r.gate ∷ r.tail) r.stores r.reaches)
 
 -- .. in its half
-pub ready_lies : (a : Account) (b : List ℕ) → Ready a b → LiesIn a.half a.layout b
+pub ready_lies : (a : Account) (b : List ℕ) → Ready a b → LiesIn a.half a.layout a.other_open b
 ready_lies a b r = record {
   opened = shown r.cut (r.gate ∷ r.tail);
   opens = ap opened_in r.text ∙ shown_opens r.cut a.plant (r.gate ∷ r.tail) r.stores r.reaches;
   in_half = sym (ap (λ (y : Account). y.half) r.is);
   of_layout = sym (ap (λ (y : Account). y.layout) r.is);
+  beside = (λ i. gate_in (head_of (r.is i).layout (other (r.is i).half) (r.text i))) ∙ shown_beside r.cut a.plant (r.gate ∷ r.tail) r.stores r.reaches ∙ sym (ap (λ (y : Account). y.other_open) r.is);
 }
 
 during_map : (B A B' A' : List ℕ → Type 0) (stage : Stage) (b : List ℕ) → (B b → B' b) → (A b → A' b) → During B A stage b → During B' A' stage b
@@ -80,6 +82,8 @@ during_map B A B' A' CloseSync b f g d = f d
 during_map B A B' A' Body b f g d = f d
 during_map B A B' A' BodySync b f g d = f d
 during_map B A B' A' Gate b f g d = ⊎_elim (λ x. inl (f x)) (λ x. inr (g x)) d
+during_map B A B' A' TurnSync b f g d = ⊎_elim (λ x. inl (f x)) (λ x. inr (g x)) d
+during_map B A B' A' Retire b f g d = g d
 during_map B A B' A' GateSync b f g d = ⊎_elim (λ x. inl (f x)) (λ x. inr (g x)) d
 during_map B A B' A' Stopped b f g d = ⊎_elim (λ x. inl (f x)) (λ x. inr (g x)) d
 
@@ -95,44 +99,57 @@ module _ (a : Account) (actions : List Asked) (state : DeviceState) (b : List �
   abbrev Stored : Type 0
   Stored = HoldsPlant a.epoch a.plant b
 
-  pub alone_leaves : (stage : Stage) → KeptIn (work_alone stage actions) a state → Stored ⊎ Ready (with_commit a actions) b
+  pub alone_leaves : (stage : Stage) → KeptIn (work_alone stage actions) a state → Stored ⊎ HoldsIt (with_commit a actions) b
   alone_leaves Idle k = inl (ready_holds a b (k.images b left))
   alone_leaves Close k = absurd k.2.stands
   alone_leaves CloseSync k = absurd k.2.stands
   alone_leaves Body k = inl (ready_holds a b (k.2.images b left))
   alone_leaves BodySync k = inl (ready_holds a b (k.2.images b left))
   alone_leaves Gate k = inl (ready_holds a b (k.2.images b left))
-  alone_leaves GateSync k = ⊎_elim (λ x. inl (ready_holds a b x)) inr (k.2.images b left)
-  alone_leaves Stopped k = ⊎_elim (λ x. inl (ready_holds a b x)) inr (k.2.images b left)
+  alone_leaves TurnSync k = absurd k.2.stands
+  alone_leaves Retire k = absurd k.2.stands
+  alone_leaves GateSync k = ⊎_elim (λ x. inl (ready_holds a b x)) (λ x. inr (ready_holds (with_commit a actions) b x)) (k.2.images b left)
+  alone_leaves Stopped k = ⊎_elim (λ x. inl (ready_holds a b x)) (λ x. inr (ready_holds (with_commit a actions) b x)) (k.2.images b left)
 
-  pub commit_leaves : (k : Copy) (stage : Stage) → Possible stage true Commit → KeptIn (work_beside stage Commit k actions) a state → Stored ⊎ Ready (with_commit a actions) b
+  pub commit_leaves : (k : Copy) (stage : Stage) → Possible stage true Commit → KeptIn (work_beside stage Commit k actions) a state → Stored ⊎ HoldsIt (with_commit a actions) b
   commit_leaves c Idle may k = absurd may
   commit_leaves c Close may k = absurd may
   commit_leaves c CloseSync may k = absurd may
   commit_leaves c Body may k = inl (ready_holds a b (k.2.images b left))
   commit_leaves c BodySync may k = inl (ready_holds a b (k.2.images b left))
   commit_leaves c Gate may k = inl (ready_holds a b (k.2.images b left))
-  commit_leaves c GateSync may k = ⊎_elim (λ x. inl (ready_holds a b x)) inr (k.2.images b left)
+  commit_leaves c TurnSync may k = absurd may
+  commit_leaves c Retire may k = absurd may
+  commit_leaves c GateSync may k = ⊎_elim (λ x. inl (ready_holds a b x)) (λ x. inr (ready_holds (with_commit a actions) b x)) (k.2.images b left)
   commit_leaves c Stopped may k = absurd may
 
-  module _ (c : Copy) (n : ℕ) (long : length (run_text a c) ≡ n) where
-    turns : Ready (turned_by a c) b → Ready (turned_half a n) b
-    turns r = subst (λ (x : Account). Ready x b) (turned_is a c n long) r
+  module _ (c : Copy) (n : ℕ) where
+    abbrev Turning : Type 0
+    Turning = Stored ⊎ HoldsIt (turned_half a n) b
 
-    pub checkpoint_leaves : (stage : Stage) → Possible stage true Checkpoint → KeptIn (work_beside stage Checkpoint c actions) a state → Stored ⊎ Ready (turned_half a n) b
+    turning : Ready a b ⊎ Ready (turned_by a c) b → Turning
+    turning = ⊎_elim (λ x. inl (ready_holds a b x)) (λ x. inr (ready_holds (turned_by a c) b x))
+
+    last_leaves : (summed : Bool) → KeptLast summed c a state → Turning
+    last_leaves true k = inr (k.images b left)
+    last_leaves false k = turning (k.images b left)
+
+    pub checkpoint_leaves : (stage : Stage) → Possible stage true Checkpoint → KeptIn (work_beside stage Checkpoint c actions) a state → Turning
     checkpoint_leaves Idle may k = absurd may
     checkpoint_leaves Close may k = inl (ready_holds a b (k.3.images b left))
     checkpoint_leaves CloseSync may k = inl (k.2.images b left)
     checkpoint_leaves Body may k = inl (ready_holds a b (k.1.images b left))
     checkpoint_leaves BodySync may k = inl (ready_holds a b (k.images b left))
     checkpoint_leaves Gate may k = inl (ready_holds a b (k.images b left))
-    checkpoint_leaves GateSync may k = ⊎_elim (λ x. inl (ready_holds a b x)) (λ x. inr (turns x)) (k.images b left)
+    checkpoint_leaves TurnSync may k = turning (k.1.images b left)
+    checkpoint_leaves Retire may k = inr (ready_holds (turned_by a c) b (k.1.images b left))
+    checkpoint_leaves GateSync may k = last_leaves (is_summed a.version) k
     checkpoint_leaves Stopped may k = absurd may
 
 -- of a book's device
 module _ (book : Book) (i : InOrder book) (state : DeviceState) (b : List ℕ) (left : IsImage state b) where
   abbrev Either : Account → Type 0
-  Either a = HoldsPlant book.epoch book.stored b ⊎ Ready a b
+  Either a = HoldsPlant book.epoch book.stored b ⊎ HoldsIt a b
 
   at_work : IsWorking book.stage → (copying : Bool) (work : Work) → book.copying ≡ copying → Possible book.stage copying work → KeptBy book.stage copying work book state → Either (done_by work book)
   at_work works false Commit is may k = alone_leaves (account book) book.actions.items state b left book.stage (kept_alone book state book.stage Commit works k)
@@ -140,7 +157,7 @@ module _ (book : Book) (i : InOrder book) (state : DeviceState) (b : List ℕ) (
   at_work works true Commit is may k = let here = kept_beside book state book.stage Commit works k in commit_leaves (account book) book.actions.items state b left (at_out here.0 book.out) book.stage may here.2
   at_work works true Checkpoint is may k =
       let here = kept_beside book state book.stage Checkpoint works k in
-      checkpoint_leaves (account book) book.actions.items state b left (at_out here.0 book.out) book.run (ap length here.1 ∙ run_size book i works is) book.stage may here.2
+      checkpoint_leaves (account book) book.actions.items state b left (at_out here.0 book.out) book.run book.stage may here.2
 
   works_next : (works : IsWorking book.stage) → Keeps state book → Either (account_next book)
   works_next works k = subst Either (sym (next_is book book.stage refl works)) (at_work works book.copying book.work refl (possible book i works) k)
@@ -149,12 +166,14 @@ module _ (book : Book) (i : InOrder book) (state : DeviceState) (b : List ℕ) (
   next_at stage is works kept = subst (λ (s : Stage). Either (account_next_at s book.work book)) is (works_next (subst IsWorking (sym is) works) kept)
 
   by_stage : (stage : Stage) → book.stage ≡ stage → Keeps state book → Either (account_next_at stage book.work book)
-  by_stage Idle is kept = inr (rest_ready book state (at_rest book state i (subst (λ (s : Stage). IsResting (phase_of s book.work)) (sym is) tt) kept) b left)
+  by_stage Idle is kept = inr (ready_holds (account book) b (rest_ready book state (at_rest book state i (subst (λ (s : Stage). IsResting (phase_of s book.work)) (sym is) tt) kept) b left))
   by_stage Close is kept = next_at Close is tt kept
   by_stage CloseSync is kept = next_at CloseSync is tt kept
   by_stage Body is kept = next_at Body is tt kept
   by_stage BodySync is kept = next_at BodySync is tt kept
   by_stage Gate is kept = next_at Gate is tt kept
+  by_stage TurnSync is kept = next_at TurnSync is tt kept
+  by_stage Retire is kept = next_at Retire is tt kept
   by_stage GateSync is kept = next_at GateSync is tt kept
   by_stage Stopped is kept = subst (λ (s : Stage). KeptBy s book.copying book.work book state) is kept b left
 
@@ -164,13 +183,13 @@ module _ (book : Book) (i : InOrder book) (state : DeviceState) (b : List ℕ) (
 pub image_stands : {D : Type 0} (disk : D) (book : Book) (state : DeviceState) (b : List ℕ) → InOrder book → Keeps state book → IsImage state b
     → IsStoredIn (standing_by (account book)) b ⊎ IsStoredIn (next_seen_of (keeper_of disk book)) b
 image_stands disk book state b i k image =
-    ⊎_elim (λ h. inl (holds_stands book.epoch book.stored b h)) (λ r. inr (after_seen disk book b (ready_stands (account_next book) b r)))
+    ⊎_elim (λ h. inl (holds_stands book.epoch book.stored b h)) (λ r. inr (after_seen disk book b (holds_stands (account_next book).epoch (account_next book).plant b r)))
     (either_is book i state b image k)
 
 pub leaves_stands : {D : Type 0} (disk : D) (book : Book) (b : List ℕ) → MayLeave book b → MayStand (keeper_of disk book) b
 leaves_stands disk book b m =
-    during_map (HoldsPlant book.epoch book.stored) (Ready (account_next book)) (IsStoredIn (standing_by (account book))) (IsStoredIn (next_seen_of (keeper_of disk book))) book.stage b
-    (holds_stands book.epoch book.stored b) (λ r. after_seen disk book b (ready_stands (account_next book) b r)) m
+    during_map (HoldsPlant book.epoch book.stored) (HoldsIt (account_next book)) (IsStoredIn (standing_by (account book))) (IsStoredIn (next_seen_of (keeper_of disk book))) book.stage b
+    (holds_stands book.epoch book.stored b) (λ r. after_seen disk book b (holds_stands (account_next book).epoch (account_next book).plant b r)) m
 
 pub rest_stands : (book : Book) (state : DeviceState) → InOrder book → IsResting (phase_of book.stage book.work) → Keeps state book → StandsWithRoom (standing_by (account book)) state.bytes
 rest_stands book state i rests k = by_rest (at_rest book state i rests k)
@@ -179,12 +198,12 @@ rest_stands book state i rests k = by_rest (at_rest book state i rests k)
     by_rest (Idles off kept) = subst (StandsWithRoom (standing_by (account book))) (sym kept.rests.reads) (ready_room (account book) kept.bytes kept.ready)
     by_rest (Pauses c on run kept) = subst (StandsWithRoom (standing_by (account book))) (sym kept.1.rests.reads) (ready_room (account book) kept.1.bytes kept.1.ready)
 
-rest_lies : (book : Book) (state : DeviceState) → InOrder book → IsResting (phase_of book.stage book.work) → Keeps state book → LiesIn book.half book.layout state.bytes
+rest_lies : (book : Book) (state : DeviceState) → InOrder book → IsResting (phase_of book.stage book.work) → Keeps state book → LiesIn book.half book.layout book.other_open state.bytes
 rest_lies book state i rests k = by_rest (at_rest book state i rests k)
   where
-    by_rest : AtRest book state → LiesIn book.half book.layout state.bytes
-    by_rest (Idles off kept) = subst (LiesIn book.half book.layout) (sym kept.rests.reads) (ready_lies (account book) kept.bytes kept.ready)
-    by_rest (Pauses c on run kept) = subst (LiesIn book.half book.layout) (sym kept.1.rests.reads) (ready_lies (account book) kept.1.bytes kept.1.ready)
+    by_rest : AtRest book state → LiesIn book.half book.layout book.other_open state.bytes
+    by_rest (Idles off kept) = subst (LiesIn book.half book.layout book.other_open) (sym kept.rests.reads) (ready_lies (account book) kept.bytes kept.ready)
+    by_rest (Pauses c on run kept) = subst (LiesIn book.half book.layout book.other_open) (sym kept.1.rests.reads) (ready_lies (account book) kept.1.bytes kept.1.ready)
 
 -- the same of a keeper as its callers see it
 module _ {D : Type 0} (honest : D → Type 0) (state : D → DeviceState) (disk : D) (book : Book) (k : KeeperView D) (same : keeper_of disk book ≡ k) (order : InOrder book) (kept : honest disk → ∥ Keeps (state disk) book ∥₁) where
@@ -196,8 +215,8 @@ module _ {D : Type 0} (honest : D → Type 0) (state : D → DeviceState) (disk 
   rest_of = subst (λ (h : KeeperView D). honest h.disk → IsResting (phase_of h.stage h.work) → ∥ StandsWithRoom h.stored (state h.disk).bytes ∥₁) same
       (λ is rests. ∥∥₁_map (kept is) (λ x. rest_stands book (state disk) order rests x))
 
-  pub lies_of : honest k.disk → IsResting (phase_of k.stage k.work) → ∥ LiesIn k.half k.layout (state k.disk).bytes ∥₁
-  lies_of = subst (λ (h : KeeperView D). honest h.disk → IsResting (phase_of h.stage h.work) → ∥ LiesIn h.half h.layout (state h.disk).bytes ∥₁) same
+  pub lies_of : honest k.disk → IsResting (phase_of k.stage k.work) → ∥ LiesIn k.half k.layout k.other_open (state k.disk).bytes ∥₁
+  lies_of = subst (λ (h : KeeperView D). honest h.disk → IsResting (phase_of h.stage h.work) → ∥ LiesIn h.half h.layout h.other_open (state h.disk).bytes ∥₁) same
       (λ is rests. ∥∥₁_map (kept is) (λ x. rest_lies book (state disk) order rests x))
 
   pub lengths_of : (image_size k.layout ≤ 3289168) × (k.layout.segment ≤ 16777216)
@@ -208,6 +227,9 @@ module _ {D : Type 0} (honest : D → Type 0) (state : D → DeviceState) (disk 
 
   pub frames_of : IsWorking k.stage → k.work ≡ Commit → (length k.asked ≤ 256) × (k.copying ≡ true → k.out + 1 ≤ k.run)
   frames_of = subst (λ (h : KeeperView D). IsWorking h.stage → h.work ≡ Commit → (length h.asked ≤ 256) × (h.copying ≡ true → h.out + 1 ≤ h.run)) same (λ works is. frames_by book order works is)
+
+  pub alone_of : IsWorking k.stage → k.work ≡ Commit → IsAlone k.stored.version k.other_open
+  alone_of = subst (λ (h : KeeperView D). IsWorking h.stage → h.work ≡ Commit → IsAlone h.stored.version h.other_open) same (λ works is. (commits book order works is).alone)
 
   pub pieces_of : k.stage ≡ Body → k.work ≡ Checkpoint → k.out + 1 ≤ k.run
   pieces_of = subst (λ (h : KeeperView D). h.stage ≡ Body → h.work ≡ Checkpoint → h.out + 1 ≤ h.run) same (λ at is. piece_by book order at is)

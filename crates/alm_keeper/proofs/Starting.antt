@@ -13,7 +13,7 @@ use Rattle.alm_keeper.specs.declared.book.Book.{Book}
 use Rattle.alm_store.specs.declared.refused.Refused.{Refused}
 use Rattle.alm_store.specs.declared.refused.Refused.TheVariants as no
 use Rattle.alm_keeper.specs.declared.stage.Stage.{Stage}
-use Rattle.alm_keeper.specs.declared.stage.Stage.TheVariants.{Idle, Close, CloseSync, Body, BodySync, Gate, GateSync, Stopped}
+use Rattle.alm_keeper.specs.declared.stage.Stage.TheVariants.{Idle, Close, CloseSync, Body, BodySync, Gate, TurnSync, Retire, GateSync, Stopped}
 use Rattle.alm_keeper.specs.declared.stage.Work.{Work}
 use Rattle.alm_keeper.specs.declared.stage.Work.TheVariants.{Commit, Checkpoint}
 use Rattle.alm_keeper.specs.Stages.{IsWorking, first_stage, phase_of}
@@ -49,6 +49,10 @@ at_rest b state i rests kept = by_stage b.stage b.work rests i.does b.copying re
     by_stage BodySync Checkpoint r d o is k = absurd r
     by_stage Gate Commit r d o is k = absurd r
     by_stage Gate Checkpoint r d o is k = absurd r
+    by_stage TurnSync Commit r d o is k = absurd r
+    by_stage TurnSync Checkpoint r d o is k = absurd r
+    by_stage Retire Commit r d o is k = absurd r
+    by_stage Retire Checkpoint r d o is k = absurd r
     by_stage GateSync Commit r d o is k = absurd r
     by_stage GateSync Checkpoint r d o is k = absurd r
 
@@ -173,6 +177,10 @@ marked_order b n i = record {
     does BodySync Checkpoint d = d
     does Gate Commit d = d
     does Gate Checkpoint d = d
+    does TurnSync Commit d = d
+    does TurnSync Checkpoint d = d
+    does Retire Commit d = d
+    does Retire Checkpoint d = d
     does GateSync Commit d = d
     does GateSync Checkpoint d = d
     does Stopped w d = tt
@@ -189,6 +197,8 @@ marked_order b n i = record {
     copies true Body o = same Body o
     copies true BodySync o = same BodySync o
     copies true Gate o = same Gate o
+    copies true TurnSync o = same TurnSync o
+    copies true Retire o = same Retire o
     copies true GateSync o = same GateSync o
 
 pub marked_keeps : (b : Book) (n : ℕ) (state : DeviceState) → Keeps state b → Keeps state (record b { written = n })
@@ -212,5 +222,9 @@ marked_keeps b n state kept = by_stage b.stage b.copying kept
     by_stage BodySync true k = k
     by_stage Gate false k = k
     by_stage Gate true k = k
+    by_stage TurnSync false k = k
+    by_stage TurnSync true k = k
+    by_stage Retire false k = k
+    by_stage Retire true k = k
     by_stage GateSync false k = k
     by_stage GateSync true k = k

@@ -19,7 +19,7 @@ use Rattle.alm_store.specs.declared.open_fault.OpenFault.TheVariants as fault
 use Rattle.alm_store.specs.declared.progress.Progress.{Progress}
 use Rattle.alm_store.specs.declared.progress.Progress.TheVariants.{More, Done, Failed}
 use Rattle.alm_keeper.specs.declared.stage.Stage.{Stage}
-use Rattle.alm_keeper.specs.declared.stage.Stage.TheVariants.{Idle, Close, CloseSync, Body, BodySync, Gate, GateSync, Stopped}
+use Rattle.alm_keeper.specs.declared.stage.Stage.TheVariants.{Idle, Close, CloseSync, Body, BodySync, Gate, TurnSync, Retire, GateSync, Stopped}
 use Rattle.alm_keeper.specs.declared.stage.Work.{Work}
 use Rattle.alm_keeper.specs.declared.stage.Work.TheVariants.{Commit, Checkpoint}
 use Rattle.alm_keeper.specs.AsStore.{IsLastEpoch}
@@ -37,6 +37,8 @@ change_by k Body Commit = tt
 change_by k Body Checkpoint = tt
 change_by k BodySync w = tt
 change_by k Gate w = tt
+change_by k TurnSync w = tt
+change_by k Retire w = tt
 change_by k GateSync w = tt
 change_by k Stopped w = tt
 
@@ -100,6 +102,8 @@ epoch_next k CloseSync w = epoch_begun k w
 epoch_next k Body w = epoch_begun k w
 epoch_next k BodySync w = epoch_begun k w
 epoch_next k Gate w = epoch_begun k w
+epoch_next k TurnSync w = epoch_begun k w
+epoch_next k Retire w = epoch_begun k w
 epoch_next k GateSync w = epoch_begun k w
 epoch_next k Stopped w = epoch_begun k w
 
@@ -110,7 +114,10 @@ epoch_after k CloseSync w = omega arith
 epoch_after k Body Commit = omega arith
 epoch_after k Body Checkpoint = omega arith
 epoch_after k BodySync w = omega arith
-epoch_after k Gate w = omega arith
+epoch_after k Gate Commit = omega arith
+epoch_after k Gate Checkpoint = omega arith
+epoch_after k TurnSync w = omega arith
+epoch_after k Retire w = omega arith
 epoch_after k GateSync Commit = omega arith
 epoch_after k GateSync Checkpoint = omega arith
 epoch_after k Stopped w = omega arith

@@ -2,24 +2,24 @@
 use Rattle.std.proofs.Common.{◌≡◌, ◌≢◌, ◌≤◌, ◌+◌, ◌-◌, ◌*◌, ◌/◌, ◌==◌, ℕ, Bool, true, false, List, length, Some, Result, Ok, Err, OnOk, IfOk, if◌then◌else◌, refl, sym, ◌∙◌, ap, subst, arith}
 use Rattle.std.proofs.lemmas.Bool.{eqb-true, eqb-false, ne_eqb}
 use Rattle.alm_codec.specs.declared.asked.Asked.{Asked}
-use Rattle.alm_codec.specs.Versions.{is_full}
 use Rattle.alm_codec.proofs.Full.{newer_full}
 use Rattle.alm_store.specs.declared.progress.Progress.{Progress}
 use Rattle.alm_store.specs.declared.progress.Progress.TheVariants.{More, Done, Failed}
 use Rattle.alm_store.specs.declared.refused.Refused.{Refused}
 use Rattle.alm_store.specs.declared.refused.Refused.TheVariants as no
 use Rattle.alm_keeper.specs.declared.stage.Stage.{Stage}
-use Rattle.alm_keeper.specs.declared.stage.Stage.TheVariants.{Idle, Close, CloseSync, Body, BodySync, Gate, GateSync, Stopped}
+use Rattle.alm_keeper.specs.declared.stage.Stage.TheVariants.{Idle, Close, CloseSync, Body, BodySync, Gate, TurnSync, Retire, GateSync, Stopped}
 use Rattle.alm_keeper.specs.declared.stage.Work.{Work}
 use Rattle.alm_keeper.specs.declared.stage.Work.TheVariants.{Commit, Checkpoint}
-use Rattle.alm_keeper.specs.Stages.{IsWorking, first_stage, sent_stage, rest_stage, rest_work, phase_of}
+use Rattle.alm_keeper.specs.Stages.{IsWorking, first_stage, sent_stage, turn_stage, rest_stage, rest_work, phase_of}
 use Rattle.alm_store.specs.Advancing.{IsResting}
 use Rattle.alm_checkpoint.specs.Layouts.{image_size}
+use Rattle.alm_checkpoint.specs.Headers.{is_summed}
 use Rattle.alm_keeper.specs.Keeper.{KeeperView, used_room, first_run, piece, after_frame, sends, after_by, BeginsCommit, BeginsCheckpoint, Progresses}
 use Rattle.alm_store.specs.Pace.{most}
 use Rattle.alm_store.specs.Pace.{Going, IsInPace}
-use Rattle.alm_keeper.specs.AsStore.{pieces_out, run_of, is_checkpoint_open, going_if, going_of, store_state_of}
-use Rattle.alm_keeper.proofs.CallsLeft.{written_more, unwritten, counted}
+use Rattle.alm_keeper.specs.AsStore.{IsNewest, pieces_out, run_of, is_checkpoint_open, going_if, going_of, store_state_of}
+use Rattle.alm_keeper.proofs.CallsLeft.{alone_shut, alone_after, written_more, unwritten, counted}
 use Rattle.alm_store.specs.Pacing.{KeepsPace, SamePace, IsJustOpened, Grows, SendsOnePiece, PaceAfter, Goes}
 
 -- ---- pieces
@@ -61,6 +61,10 @@ module _ {D : Type 0} (k : KeeperView D) where
   stays : (s t : Stage) (w : Work) → k.work ≡ w → going_if (is_checkpoint_open t w k.copying) g ≡ going_if (is_checkpoint_open s w k.copying) g → going_if (is_checkpoint_open t k.work k.copying) g ≡ going_if (is_checkpoint_open s w k.copying) g
   stays s t w is same = ap (λ (v : Work). going_if (is_checkpoint_open t v k.copying) g) is ∙ same
 
+  turn_open : (b : Bool) → is_checkpoint_open (turn_stage b) Checkpoint k.copying ≡ true
+  turn_open true = refl
+  turn_open false = refl
+
   goes_by : (s : Stage) (w : Work) → k.work ≡ w → s ≢ GateSync → IsWorking s → (s ≡ Body → w ≡ Checkpoint → k.out + 1 ≤ k.run) → To s w (after_by s w k)
   goes_by Idle w is not works some = absurd works
   goes_by Stopped w is not works some = absurd works
@@ -73,7 +77,11 @@ module _ {D : Type 0} (k : KeeperView D) where
   goes_by BodySync Commit is not works some = (refl, stays BodySync Gate Commit is refl)
   goes_by BodySync Checkpoint is not works some = (refl, stays BodySync Gate Checkpoint is refl)
   goes_by Gate Commit is not works some = (refl, stays Gate GateSync Commit is refl)
-  goes_by Gate Checkpoint is not works some = (refl, stays Gate GateSync Checkpoint is refl)
+  goes_by Gate Checkpoint is not works some = (refl, stays Gate (turn_stage (is_summed k.stored.version)) Checkpoint is (ap (λ (b : Bool). going_if b g) (turn_open (is_summed k.stored.version))))
+  goes_by TurnSync Commit is not works some = (refl, stays TurnSync Retire Commit is refl)
+  goes_by TurnSync Checkpoint is not works some = (refl, stays TurnSync Retire Checkpoint is refl)
+  goes_by Retire Commit is not works some = (refl, stays Retire GateSync Commit is refl)
+  goes_by Retire Checkpoint is not works some = (refl, stays Retire GateSync Checkpoint is refl)
   goes_by GateSync w is not works some = absurd (not refl)
 
   -- a frame goes out with the checkpoint that is open
@@ -91,17 +99,20 @@ module _ {D : Type 0} (k : KeeperView D) where
   ends_by Commit frame small = let f = frame refl in (omega (arith, f.0), refl, grows k.copying f.1 small f.0)
   ends_by Checkpoint frame small = (omega arith, refl)
 
-  version_by : (s : Stage) (w : Work) → is_full k.stored.version ≡ true → is_full (after_by s w k).stored.version ≡ true
+  version_by : (s : Stage) (w : Work) → IsNewest k → IsNewest (after_by s w k)
   version_by Idle w is = is
   version_by Stopped w is = is
   version_by Close w is = is
-  version_by CloseSync w is = is
+  version_by CloseSync w is = (is.0, alone_shut k.stored.version)
   version_by Body Commit is = is
   version_by Body Checkpoint is = is
   version_by BodySync w is = is
-  version_by Gate w is = is
+  version_by Gate Commit is = is
+  version_by Gate Checkpoint is = is
+  version_by TurnSync w is = is
+  version_by Retire w is = is
   version_by GateSync Commit is = is
-  version_by GateSync Checkpoint is = newer_full k.stored.version
+  version_by GateSync Checkpoint is = (newer_full k.stored.version, alone_after k.stored.version)
 
   segment_by : (s : Stage) (w : Work) → (after_by s w k).layout.segment ≡ k.layout.segment
   segment_by Idle w = refl
@@ -111,7 +122,10 @@ module _ {D : Type 0} (k : KeeperView D) where
   segment_by Body Commit = refl
   segment_by Body Checkpoint = refl
   segment_by BodySync w = refl
-  segment_by Gate w = refl
+  segment_by Gate Commit = refl
+  segment_by Gate Checkpoint = refl
+  segment_by TurnSync w = refl
+  segment_by Retire w = refl
   segment_by GateSync Commit = refl
   segment_by GateSync Checkpoint = refl
 
@@ -121,22 +135,22 @@ module _ {D : Type 0} (old new : KeeperView D) where
   segment_stays Done goes = ap (λ (k : KeeperView D). k.layout.segment) goes.1 ∙ segment_by old old.stage old.work
   segment_stays Failed goes = ap (λ (k : KeeperView D). k.layout.segment) goes
 
-  pub newest_stays : (result : Progress) → Progresses result old new → is_full old.stored.version ≡ true → is_full new.stored.version ≡ true
-  newest_stays More goes is = ap (λ (k : KeeperView D). is_full k.stored.version) goes.1 ∙ version_by old old.stage old.work is
-  newest_stays Done goes is = ap (λ (k : KeeperView D). is_full k.stored.version) goes.1 ∙ version_by old old.stage old.work is
-  newest_stays Failed goes is = ap (λ (k : KeeperView D). is_full k.stored.version) goes ∙ is
+  pub newest_stays : (result : Progress) → Progresses result old new → IsNewest old → IsNewest new
+  newest_stays More goes is = subst IsNewest (sym goes.1) (version_by old old.stage old.work is)
+  newest_stays Done goes is = subst IsNewest (sym goes.1) (version_by old old.stage old.work is)
+  newest_stays Failed goes is = subst IsNewest (sym goes) is
 
-  pub newest_begun : (result : Result Unit Refused) (asked : List Asked) → BeginsCommit result asked old new → is_full old.stored.version ≡ true → is_full new.stored.version ≡ true
-  newest_begun (Ok u) asked begins is = ap (λ (k : KeeperView D). is_full k.stored.version) begins ∙ is
-  newest_begun (Err (no.NotAccepted place)) asked begins is = ap (λ (k : KeeperView D). is_full k.stored.version) begins ∙ is
-  newest_begun (Err no.Stopped) asked begins is = ap (λ (k : KeeperView D). is_full k.stored.version) begins ∙ is
-  newest_begun (Err no.Working) asked begins is = ap (λ (k : KeeperView D). is_full k.stored.version) begins ∙ is
-  newest_begun (Err no.Gap) asked begins is = ap (λ (k : KeeperView D). is_full k.stored.version) begins ∙ is
-  newest_begun (Err no.Exhausted) asked begins is = ap (λ (k : KeeperView D). is_full k.stored.version) begins ∙ is
+  pub newest_begun : (result : Result Unit Refused) (asked : List Asked) → BeginsCommit result asked old new → IsNewest old → IsNewest new
+  newest_begun (Ok u) asked begins is = subst IsNewest (sym begins) is
+  newest_begun (Err (no.NotAccepted place)) asked begins is = subst IsNewest (sym begins) is
+  newest_begun (Err no.Stopped) asked begins is = subst IsNewest (sym begins) is
+  newest_begun (Err no.Working) asked begins is = subst IsNewest (sym begins) is
+  newest_begun (Err no.Gap) asked begins is = subst IsNewest (sym begins) is
+  newest_begun (Err no.Exhausted) asked begins is = subst IsNewest (sym begins) is
 
-  pub newest_copied : (result : Result Unit Refused) → BeginsCheckpoint result old new → is_full old.stored.version ≡ true → is_full new.stored.version ≡ true
-  newest_copied (Ok u) begins is = ap (λ (k : KeeperView D). is_full k.stored.version) begins ∙ is
-  newest_copied (Err why) begins is = ap (λ (k : KeeperView D). is_full k.stored.version) begins ∙ is
+  pub newest_copied : (result : Result Unit Refused) → BeginsCheckpoint result old new → IsNewest old → IsNewest new
+  newest_copied (Ok u) begins is = subst IsNewest (sym begins) is
+  newest_copied (Err why) begins is = subst IsNewest (sym begins) is
 
   pace_after : (result : Progress) → IsWorking old.stage → image_size old.layout ≤ 3289168 → (IsWorking old.stage → old.work ≡ Commit → (length old.asked ≤ 256) × (old.copying ≡ true → old.out + 1 ≤ old.run))
       → (old.stage ≡ Body → old.work ≡ Checkpoint → old.out + 1 ≤ old.run) → Progresses result old new → PaceAfter result (phase_of old.stage old.work) (used_room old) (used_room new) new.written (going_of old) (going_of new)
@@ -174,6 +188,10 @@ module _ {D : Type 0} (old new : KeeperView D) where
   rest_open BodySync Checkpoint c rest off on = absurd rest
   rest_open Gate Commit c rest off on = absurd rest
   rest_open Gate Checkpoint c rest off on = absurd rest
+  rest_open TurnSync Commit c rest off on = absurd rest
+  rest_open TurnSync Checkpoint c rest off on = absurd rest
+  rest_open Retire Commit c rest off on = absurd rest
+  rest_open Retire Checkpoint c rest off on = absurd rest
   rest_open GateSync Commit c rest off on = absurd rest
   rest_open GateSync Checkpoint c rest off on = absurd rest
 

@@ -12,12 +12,13 @@ use Rattle.alm_store.specs.declared.progress.Progress.TheVariants.{More, Done, F
 use Rattle.alm_store.specs.declared.refused.Refused as R
 use Rattle.alm_store.specs.declared.refused.Refused.TheVariants as no
 use Rattle.alm_keeper.specs.declared.stage.Stage.{Stage}
-use Rattle.alm_keeper.specs.declared.stage.Stage.TheVariants.{Idle, Close, CloseSync, Body, BodySync, Gate, GateSync, Stopped}
+use Rattle.alm_keeper.specs.declared.stage.Stage.TheVariants.{Idle, Close, CloseSync, Body, BodySync, Gate, TurnSync, Retire, GateSync, Stopped}
 use Rattle.alm_keeper.specs.declared.stage.Work.{Work}
 use Rattle.alm_keeper.specs.declared.stage.Work.TheVariants.{Commit, Checkpoint}
-use Rattle.alm_keeper.specs.Stages.{IsWorking, first_stage, sent_stage, rest_stage, rest_work, phase_of}
+use Rattle.alm_keeper.specs.Stages.{IsWorking, first_stage, sent_stage, turn_stage, rest_stage, rest_work, phase_of}
 use Rattle.alm_keeper.specs.Keeper.{KeeperView, Standing, next, next_by, begun_by, piece, commits, after_call, after_by, begin_answer, checkpoint_answer, BeginsCommit, BeginsCheckpoint, Progresses}
 use Rattle.alm_model.specs.Rules.{admits_all}
+use Rattle.alm_checkpoint.specs.Headers.{is_summed}
 use Rattle.alm_model.specs.Step.{run}
 use Rattle.alm_store.specs.Advancing.{Advanced, CheckpointIsNotOpened, CheckpointIsOpened, CommitIsBegun, CommitIsNotBegun, IsCheckpointing, IsResting}
 use Rattle.alm_store.specs.Pacing.{IsJustOpened}
@@ -44,6 +45,10 @@ pause_moves = ((λ e. absurd cc, λ e. absurd cc), λ e. absurd cc, λ e. absurd
 copy_pauses : Moves at.Copying at.Paused
 copy_pauses = ((λ e. absurd cc, λ e. absurd cc), λ e. absurd cc, λ e. absurd cc)
 
+turn_moves : (b : Bool) → Moves at.Copying (phase_of (turn_stage b) Checkpoint)
+turn_moves true = copy_moves
+turn_moves false = copy_moves
+
 sent_moves : (b : Bool) → Moves at.Paused (phase_of (if b then BodySync else Body) Checkpoint)
 sent_moves true = pause_copies
 sent_moves false = pause_moves
@@ -65,7 +70,11 @@ module _ {D : Type 0} (k : KeeperView D) where
   moves_by BodySync Commit is not works = subst (λ (v : Work). To Gate v at.Committing) (sym is) commit_moves
   moves_by BodySync Checkpoint is not works = subst (λ (v : Work). To Gate v at.Copying) (sym is) copy_moves
   moves_by Gate Commit is not works = subst (λ (v : Work). To GateSync v at.Committing) (sym is) commit_moves
-  moves_by Gate Checkpoint is not works = subst (λ (v : Work). To GateSync v at.Copying) (sym is) copy_moves
+  moves_by Gate Checkpoint is not works = subst (λ (v : Work). To (turn_stage (is_summed k.stored.version)) v at.Copying) (sym is) (turn_moves (is_summed k.stored.version))
+  moves_by TurnSync Commit is not works = subst (λ (v : Work). To Retire v at.Committing) (sym is) commit_moves
+  moves_by TurnSync Checkpoint is not works = subst (λ (v : Work). To Retire v at.Copying) (sym is) copy_moves
+  moves_by Retire Commit is not works = subst (λ (v : Work). To GateSync v at.Committing) (sym is) commit_moves
+  moves_by Retire Checkpoint is not works = subst (λ (v : Work). To GateSync v at.Copying) (sym is) copy_moves
   moves_by GateSync w is not works = absurd (not refl)
 
   -- a work is done
@@ -98,6 +107,8 @@ next_working CloseSync stored begun is = refl
 next_working Body stored begun is = refl
 next_working BodySync stored begun is = refl
 next_working Gate stored begun is = refl
+next_working TurnSync stored begun is = refl
+next_working Retire stored begun is = refl
 next_working GateSync stored begun is = refl
 
 begun_stays : {D : Type 0} (k : KeeperView D) (disk : D) (s : Stage) (w : Work) → begun_by w (record k { disk = disk; stage = s }) ≡ begun_by w k

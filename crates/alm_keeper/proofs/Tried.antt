@@ -100,6 +100,7 @@ committing a entries asked frame ahead t takes spells text =
       spells = spells t.said;
       admitted = t.admitted;
       takes = (omega (arith, takes.0, ap length actions, asked_length asked), subst (AreBorne a.version) (sym actions) takes.1);
+      alone = takes.2;
       text = text;
       tried = t.plant;
     }

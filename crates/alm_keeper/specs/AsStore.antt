@@ -1,14 +1,16 @@
 -- A keeper as a store.
-use Rattle.std.specs.Prelude.{◌+◌, ◌-◌, ◌/◌, ◌^◌, ◌==◌, ℕ, Bool, true, false, List, Option, Some, None, if◌then◌else◌}
+use Rattle.std.specs.Prelude.{◌≡◌, ◌+◌, ◌-◌, ◌/◌, ◌^◌, ◌==◌, ℕ, Bool, true, false, List, Option, Some, None, if◌then◌else◌}
 use Rattle.alm_disk.specs.Device.{DeviceState}
 use Rattle.alm_model.specs.Plant.{Condensed}
 use Rattle.alm_checkpoint.specs.Standing.{Stands}
 use Rattle.alm_keeper.specs.Keeper.{KeeperView, first_run, next, used_room}
 use Rattle.alm_keeper.specs.Stages.{phase_of}
+use Rattle.alm_keeper.specs.Stand.{IsAlone}
+use Rattle.alm_codec.specs.Versions.{is_full}
 use Rattle.alm_store.specs.Pace.{Going, most}
 use Rattle.alm_store.specs.State.{StoreState}
 use Rattle.alm_keeper.specs.declared.stage.Stage.{Stage}
-use Rattle.alm_keeper.specs.declared.stage.Stage.TheVariants.{Idle, Close, CloseSync, Body, BodySync, Gate, GateSync}
+use Rattle.alm_keeper.specs.declared.stage.Stage.TheVariants.{Idle, Close, CloseSync, Body, BodySync, Gate, TurnSync, Retire, GateSync}
 use Rattle.alm_keeper.specs.declared.stage.Work.{Work}
 use Rattle.alm_keeper.specs.declared.stage.Work.TheVariants.{Commit, Checkpoint}
 
@@ -20,22 +22,33 @@ StandsFor bytes plant = (epoch : ℕ) × Stands bytes epoch plant
 abbrev pub IsLastEpoch : DeviceState → Type 0
 IsLastEpoch state = ∥ ((plant : Condensed) × Stands state.bytes (2 ^ 64 - 1) plant) ∥₁
 
+-- the half that stands is of a version with all actions, and takes frames
+abbrev pub IsNewest : {D : Type 0} → KeeperView D → Type 0
+IsNewest k = (is_full k.stored.version ≡ true) × IsAlone k.stored.version k.other_open
+
 -- in how many pieces `left` bytes go out
 abbrev pub pieces : ℕ → ℕ
 pieces left = (left - 1) / most + 1
 
--- how many device calls write and open what a gate guards; `left` bytes of a run are still to be written
+-- how many device calls at most write and open what a gate guards, and in version 03 shut the half that stood; `left` bytes of
+-- a run are still to be written
+abbrev pub gate_calls : Work → ℕ
+gate_calls Commit = 2
+gate_calls Checkpoint = 4
+
 abbrev pub body_calls : Work → (left : ℕ) → ℕ
 body_calls Commit left = 4
-body_calls Checkpoint left = 3 + pieces left
+body_calls Checkpoint left = 5 + pieces left
 
--- how many are left of the work that is under way
+-- how many are left at most of the work that is under way
 abbrev pub calls_left : Stage → Work → (left : ℕ) → ℕ
 calls_left Close work left = 2 + body_calls work left
 calls_left CloseSync work left = 1 + body_calls work left
 calls_left Body work left = body_calls work left
-calls_left BodySync work left = 3
-calls_left Gate work left = 2
+calls_left BodySync work left = 1 + gate_calls work
+calls_left Gate work left = gate_calls work
+calls_left TurnSync work left = 3
+calls_left Retire work left = 2
 calls_left GateSync work left = 1
 calls_left stage work left = 0
 

@@ -7,13 +7,14 @@ use Rattle.alm_checkpoint.specs.Layouts.{header_len, head_len, half_at, image_at
 use Rattle.alm_disk.specs.declared.call.Call.{Call}
 use Rattle.alm_disk.specs.declared.call.Call.TheVariants.{Read, Write, Sync}
 use Rattle.alm_keeper.specs.declared.stage.Stage.{Stage}
-use Rattle.alm_keeper.specs.declared.stage.Stage.TheVariants.{Close, Body, Gate}
+use Rattle.alm_keeper.specs.declared.stage.Stage.TheVariants.{Close, Body, Gate, Retire}
 
 -- the call of a stage, for the gate at a place and n bytes after it
 abbrev pub stage_call : Stage → (at n : ℕ) → Call
 stage_call Close at n = Write at 1
 stage_call Body at n = Write (at + 1) n
 stage_call Gate at n = Write at 1
+stage_call Retire at n = Write at 1
 stage_call stage at n = Sync
 
 -- the reads of an opening: the header, the heads of both halves, and of the half that stands the image and the segment, each once

@@ -19,14 +19,14 @@ use Rattle.alm_checkpoint.specs.declared.layout.Layout.{Layout}
 use Rattle.alm_checkpoint.specs.declared.half.Half.{Half}
 use Rattle.alm_checkpoint.specs.declared.half.Half.TheVariants.{First, Second}
 use Rattle.alm_checkpoint.specs.Layouts.{header_len, head_len, half_len, image_size, other}
-use Rattle.alm_checkpoint.specs.Headers.{half_head_text}
+use Rattle.alm_checkpoint.specs.Headers.{half_head_text, is_summed}
 use Rattle.alm_checkpoint.specs.Cut.{head_before}
-use Rattle.alm_checkpoint.specs.Opening.{Opened, opened_in}
+use Rattle.alm_checkpoint.specs.Opening.{Opened, gate_in, head_of, opened_in}
 use Rattle.alm_checkpoint.specs.Standing.{Stands}
 use Rattle.alm_store.specs.declared.phase.Phase.{Phase}
 use Rattle.alm_store.specs.declared.phase.Phase.TheVariants as at
 use Rattle.alm_keeper.specs.declared.stage.Stage.{Stage}
-use Rattle.alm_keeper.specs.declared.stage.Stage.TheVariants.{Idle, Close, CloseSync, Body, Gate, GateSync, Stopped}
+use Rattle.alm_keeper.specs.declared.stage.Stage.TheVariants.{Idle, Close, CloseSync, Body, Gate, Retire, GateSync, Stopped}
 use Rattle.alm_keeper.specs.declared.stage.Work.{Work}
 use Rattle.alm_keeper.specs.declared.stage.Work.TheVariants.{Commit, Checkpoint}
 use Rattle.alm_store.specs.declared.refused.Refused.{Refused}
@@ -35,7 +35,8 @@ use Rattle.alm_store.specs.declared.progress.Progress.{Progress}
 use Rattle.alm_store.specs.declared.progress.Progress.TheVariants.{More, Done, Failed}
 use Rattle.alm_store.specs.Pace.{most}
 use Rattle.alm_keeper.specs.Batch.{tried_batch}
-use Rattle.alm_keeper.specs.Stages.{first_stage, next_stage, sent_stage, rest_stage, rest_work, During}
+use Rattle.alm_keeper.specs.Stages.{first_stage, next_stage, sent_stage, turn_stage, rest_stage, rest_work, During}
+use Rattle.alm_keeper.specs.Stand.{IsAlone, left_open}
 
 -- what a device encodes: a plant in an epoch, the version of its half, and how many bytes of the segment are left from its first
 -- closed gate on
@@ -80,8 +81,12 @@ abbrev pub used_room : {D : Type 0} → KeeperView D → ℕ
 used_room k = k.layout.segment - k.stored.room
 
 -- a frame of these actions fits, and the half may hold them
-abbrev pub HasRoomFor : Standing → List Action → Type 0
-HasRoomFor s actions = HasRoom s (length actions) × AreBorne s.version actions
+abbrev pub HasRoomIn : Standing → List Action → Type 0
+HasRoomIn s actions = HasRoom s (length actions) × AreBorne s.version actions
+
+-- .. and it takes frames
+abbrev pub HasRoomFor : {D : Type 0} → KeeperView D → List Action → Type 0
+HasRoomFor k actions = HasRoomIn k.stored actions × IsAlone k.stored.version k.other_open
 
 -- after a commit, and after a checkpoint with a run of this length
 abbrev pub with_actions : Standing → List Asked → Standing
@@ -122,12 +127,13 @@ IsStoredIn s bytes = Stands bytes s.epoch s.plant
 abbrev pub StandsWithRoom : Standing → List ℕ → Type 0
 StandsWithRoom s bytes = (stands : Stands bytes s.epoch s.plant) × (stands.left ≡ s.room) × (stands.opened.head.version ≡ s.version)
 
--- the half that stands is this one, of this layout
-pub record LiesIn (half : Half) (layout : Layout) (bytes : List ℕ) : Type 0 where
+-- the half that stands is this one, of this layout, and the other one's gate reads so
+pub record LiesIn (half : Half) (layout : Layout) (other_open : Bool) (bytes : List ℕ) : Type 0 where
   pub opened : Opened
   pub opens : opened_in bytes ≡ Ok opened
   pub in_half : opened.half ≡ half
   pub of_layout : opened.layout ≡ layout
+  pub beside : gate_in (head_of layout (other half) bytes) ≡ other_open
 
 -- at any moment of the call that is next: until the gate's write begins they encode what is stored, from then on that or what is
 -- begun
@@ -200,12 +206,13 @@ commits k = record k { stage = rest_stage k.copying; work = rest_work k.copying;
 
 -- a checkpoint is done
 abbrev pub turns : {D : Type 0} → KeeperView D → KeeperView D
-turns k = record k { stage = Idle; half = other k.half; other_open = true; stored = begun_by Checkpoint k; copying = false; copied = [] }
+turns k = record k { stage = Idle; half = other k.half; other_open = left_open k.stored.version; stored = begun_by Checkpoint k; copying = false; copied = [] }
 
 -- the keeper after the call that is next was done
 abbrev pub after_by : {D : Type 0} → Stage → Work → KeeperView D → KeeperView D
 after_by CloseSync work k = record k { stage = Body; other_open = false }
 after_by Body Checkpoint k = sends (piece (k.run - k.out)) k
+after_by Gate Checkpoint k = record k { stage = turn_stage (is_summed k.stored.version) }
 after_by GateSync Commit k = commits k
 after_by GateSync Checkpoint k = turns k
 after_by stage work k = record k { stage = next_stage stage }
@@ -231,6 +238,10 @@ abbrev pub gate_by : {D : Type 0} → Work → KeeperView D → ℕ
 gate_by Commit k = half_from (half_len k.layout) k.half + half_len k.layout - k.stored.room
 gate_by Checkpoint k = half_from (half_len k.layout) (other k.half)
 
+-- the gate of the half that stood, which a checkpoint of version 03 closes at its end
+abbrev pub own_gate : {D : Type 0} → KeeperView D → ℕ
+own_gate k = half_from (half_len k.layout) k.half
+
 -- a write of a number of bytes at a place, or a sync. What follows the gate is the body of the frame, or the next piece of the
 -- run
 abbrev pub call_by : {D : Type 0} → Stage → Work → KeeperView D → Call
@@ -238,6 +249,7 @@ call_by Close work k = Write (gate_by work k) 1
 call_by Body Commit k = Write (gate_by Commit k + 1) (frame_len (length k.asked))
 call_by Body Checkpoint k = Write (gate_by Checkpoint k + k.out + 1) (piece (k.run - k.out))
 call_by Gate work k = Write (gate_by work k) 1
+call_by Retire work k = Write (own_gate k) 1
 call_by stage work k = Sync
 
 -- the device call that is next
@@ -250,6 +262,7 @@ payload_by Close work k = closed_gate k.layout.version ∷ []
 payload_by Body Commit k = frame_body k.stored.version k.stored.epoch (k.stored.plant.panel.count + 1) k.asked
 payload_by Body Checkpoint k = take (piece (k.run - k.out)) (drop k.out k.copied)
 payload_by Gate work k = 165 ∷ []
+payload_by Retire work k = closed_gate k.layout.version ∷ []
 payload_by stage work k = []
 
 abbrev pub payload_of : {D : Type 0} → KeeperView D → List ℕ

@@ -1,7 +1,7 @@
 -- What a keeper knows and has begun.
 use Rattle.std.specs.Prelude.{◌≡◌, ◌⊎◌, ℕ, ◌+◌, ◌-◌, ◌*◌, ◌^◌, ◌<◌, ◌≤◌, Bool, true, false, None, Some, List, [], ◌∷◌, ◌++◌, length, take, vec_capacity, Result, Ok, Err}
 use Rattle.alm_keeper.specs.Keeper.{Standing, KeeperView, piece, written_after}
-use Rattle.alm_keeper.specs.Stages.{During, next_stage, first_stage, sent_stage, rest_stage, rest_work, phase_of}
+use Rattle.alm_keeper.specs.Stages.{During, next_stage, first_stage, sent_stage, turn_stage, rest_stage, rest_work, phase_of}
 use Rattle.alm_store.specs.Advancing.{IsResting}
 use Rattle.alm_codec.specs.declared.asked.Asked.{Asked}
 use Rattle.alm_model.specs.Plant.{Condensed}
@@ -10,11 +10,11 @@ use Rattle.alm_codec.specs.Frames.{IsFrame, asked_actions, frame_body}
 use Rattle.alm_codec.specs.Versions.{closed_gate, newer}
 use Rattle.alm_codec.specs.Image.{IsOf, image_text}
 use Rattle.alm_segment.specs.Course.{frame_len}
-use Rattle.alm_checkpoint.specs.Headers.{half_head_text}
+use Rattle.alm_checkpoint.specs.Headers.{half_head_text, is_summed}
 use Rattle.alm_checkpoint.specs.Layouts.{image_size, device_len, head_len, segment_at, other}
 use Rattle.alm_checkpoint.specs.Cut.{IsLayout, head_before}
 use Rattle.alm_keeper.specs.declared.stage.Stage.{Stage}
-use Rattle.alm_keeper.specs.declared.stage.Stage.TheVariants.{Idle, Close, CloseSync, Body, GateSync, Stopped}
+use Rattle.alm_keeper.specs.declared.stage.Stage.TheVariants.{Idle, Close, CloseSync, Body, Gate, TurnSync, Retire, GateSync, Stopped}
 use Rattle.alm_keeper.specs.declared.stage.Work.{Work}
 use Rattle.alm_keeper.specs.declared.stage.Work.TheVariants.{Commit, Checkpoint}
 use Rattle.alm_store.specs.declared.refused.Refused.{Refused}
@@ -27,7 +27,7 @@ use Rattle.alm_store.specs.declared.progress.Progress.TheVariants.{More, Done, F
 use Rattle.alm_keeper.specs.Piecewise.{Copy, run_text}
 use Rattle.alm_keeper.specs.Phases.{UnderWay, Rest, Shut, ShutSync, Pause, Frame, End, KeptIn}
 use Rattle.alm_keeper.specs.Phases.{WorkAdvances as AdvancesOn}
-use Rattle.alm_keeper.specs.Stand.{HoldsPlant, Ready, Account, end_of_half, TakesAsked, with_commit, turned_half}
+use Rattle.alm_keeper.specs.Stand.{HoldsPlant, HoldsIt, Account, IsAlone, end_of_half, TakesAsked, with_commit, turned_half}
 use Rattle.alm_types.specs.Sizes.{most_actions, most_entries}
 
 -- the account of the device that the book holds
@@ -59,6 +59,7 @@ pub record Committing (a : Account) (asked : List Asked) (frame : List ℕ) (ahe
   pub spells : IsFrame a.version a.epoch (a.plant.panel.count + 1) asked
   pub admitted : AreAdmitted a.plant (asked_actions asked)
   pub takes : TakesAsked a asked
+  pub alone : IsAlone a.version a.other_open
   pub text : take (19 + 16 * length asked) frame ≡ frame_body a.version a.epoch (a.plant.panel.count + 1) asked
   pub tried : ahead ≡ (with_commit a asked).plant
 
@@ -71,6 +72,8 @@ Does Idle work b = (b.copying ≡ false) × (b.ahead ≡ b.stored)
 Does Stopped work b = Unit {0}
 Does Close Commit b = ⊥
 Does CloseSync Commit b = ⊥
+Does TurnSync Commit b = ⊥
+Does Retire Commit b = ⊥
 Does stage work b = DoesWork work b
 
 -- how much of a run went out: none before the other half's gate is closed, all of it at the end
@@ -191,6 +194,7 @@ abbrev pub IsBookAfter : Stage → Work → Progress → (old new : Book) → Ty
 IsBookAfter GateSync work step old new = (step ≡ Done) × Finishes work old new
 IsBookAfter CloseSync work step old new = (step ≡ More) × (new ≡ record old { stage = Body; other_open = false })
 IsBookAfter Body Checkpoint step old new = (step ≡ More) × (new ≡ sent_by (piece_of old) old)
+IsBookAfter Gate Checkpoint step old new = (step ≡ More) × (new ≡ record old { stage = turn_stage (is_summed old.version) })
 IsBookAfter stage work step old new = (step ≡ More) × (new ≡ record old { stage = next_stage stage })
 
 -- what is under way on the device, without an open checkpoint
@@ -202,6 +206,8 @@ work_alone stage asked = Frame None stage asked
 abbrev pub work_beside : Stage → Work → Copy → List Asked → UnderWay
 work_beside Close work k asked = Shut k
 work_beside CloseSync work k asked = ShutSync k
+work_beside TurnSync work k asked = End k TurnSync
+work_beside Retire work k asked = End k Retire
 work_beside stage Commit k asked = Frame (Some k) stage asked
 work_beside Body Checkpoint k asked = Pause k
 work_beside stage Checkpoint k asked = End k stage
@@ -213,7 +219,7 @@ at_out k out = record k { out = out }
 -- what is kept of the device, if the device keeps to its model. The copied plant and the frames since are in no field: some copy
 -- has this run
 abbrev pub KeptBy : Stage → Bool → Work → Book → DeviceState → Type 0
-KeptBy Stopped copying work b state = (x : List ℕ) → IsImage state x → HoldsPlant b.epoch b.stored x ⊎ Ready (done_by work b) x
+KeptBy Stopped copying work b state = (x : List ℕ) → IsImage state x → HoldsPlant b.epoch b.stored x ⊎ HoldsIt (done_by work b) x
 KeptBy stage false work b state = KeptIn (work_alone stage b.actions.items) (account b) state
 KeptBy stage true work b state = (k : Copy) × (run_text (account b) k ≡ run_in b) × KeptIn (work_beside stage work (at_out k b.out) b.actions.items) (account b) state
 
@@ -231,7 +237,7 @@ PassesOn result old new b = PassesBy b.copying b.stage b.work b result old new
 
 -- what a crash leaves at any moment of the call that is next
 abbrev pub MayLeave : Book → List ℕ → Type 0
-MayLeave b bytes = During (HoldsPlant b.epoch b.stored) (Ready (account_next b)) b.stage bytes
+MayLeave b bytes = During (HoldsPlant b.epoch b.stored) (HoldsIt (account_next b)) b.stage bytes
 
 -- what a device encodes, by what is known of it
 abbrev pub standing_by : Account → Standing

@@ -51,7 +51,7 @@ OpensAs bytes (Err (Damaged half at)) = HasFault bytes (found.Damaged half at)
 
 -- the half that stands, what its head says, and whether the other half's gate is open; or the fault
 abbrev pub MarksFrom : Layout → (first second : List ℕ) → Result Marks OpenFault → Type 0
-MarksFrom l first second (Ok m) = (heads_from l first second ≡ Ok (m.half, m.head)) × (m.other_open ≡ gate_in l.version (head_by (other m.half) first second))
+MarksFrom l first second (Ok m) = (heads_from l first second ≡ Ok (m.half, m.head)) × (m.other_open ≡ gate_in (head_by (other m.half) first second))
 MarksFrom l first second (Err Disk) = Unit {0}
 MarksFrom l first second (Err OutOfMemory) = Unit {0}
 MarksFrom l first second (Err Unformatted) = heads_from l first second ≡ Err found.Unformatted

@@ -12,7 +12,7 @@ use Rattle.alm_segment.specs.Texts.{Frame, written, frames_text, AreFrames, acti
 use Rattle.alm_checkpoint.specs.Layouts.{part, segment_at, other}
 use Rattle.alm_checkpoint.specs.Cut.{head_before}
 use Rattle.alm_checkpoint.specs.Headers.{half_head_text}
-use Rattle.alm_keeper.specs.Stand.{Ready, Account, other_at}
+use Rattle.alm_keeper.specs.Stand.{Ready, Account, left_open, other_at}
 use Rattle.alm_keeper.specs.Resting.{RestsBut}
 use Rattle.alm_types.specs.Sizes.{most_actions}
 
@@ -69,9 +69,13 @@ pub record Paused (a : Account) (k : Copy) (state : DeviceState) : Type 0 where
   pub rests : RestsBut (is_sent a k.out) state bytes
   pub wrote : WrotePart a (take k.out (run_text a k)) state
 
--- the device after the checkpoint's end
+-- the device after the checkpoint's gate was opened
 abbrev pub turned_by : Account → Copy → Account
 turned_by a k = record a { half = other a.half; other_open = true; version = newer a.version; epoch = a.epoch + 1; gate = other_at a + 1 + length (open_text a k) }
+
+-- .. and after its end
+abbrev pub ended_by : Account → Copy → Account
+ended_by a k = record (turned_by a k) { other_open = left_open a.version }
 
 -- one frame more
 abbrev pub with_copied_frame : Copy → List Asked → Copy

@@ -1,7 +1,5 @@
 -- A device of which some places are loose: they may be pending, and no kept fact depends on their bytes.
 use Rattle.std.specs.Prelude.{◌≡◌, ◌⊎◌, ℕ, ◌+◌, ◌||◌, Bool, true, false, List, ◌∷◌, ◌++◌, length}
-use Rattle.alm_codec.specs.declared.version.Version.{Version}
-use Rattle.alm_codec.specs.Versions.{is_open}
 use Rattle.alm_disk.specs.Device.{DeviceState, IsImage, byte_at, is_within}
 use Rattle.alm_keeper.specs.Stages.{May, During}
 use Rattle.alm_keeper.specs.declared.stage.Stage.{Stage}
@@ -28,15 +26,16 @@ Blind loose P = (bytes other : List ℕ) → P bytes → IsBeside loose bytes ot
 
 -- a write after a gate, on a device that is loose elsewhere
 pub record Guarded (loose : ℕ → Bool) (Before After : List ℕ → Type 0) (at : ℕ) (text : List ℕ) : Type 0 where
-  -- whose gate it is
-  pub version : Version
+  -- whether the gate is open at a value: it is at the one that is written
+  pub opens : ℕ → Bool
+  pub written : opens 165 ≡ true
   pub front : List ℕ
   pub room : List ℕ
   pub back : List ℕ
   pub place : at ≡ length front
   pub fits : length room ≡ length text
-  pub closed : (gate : ℕ) → is_open version gate ≡ false → (left : List ℕ) → length left ≡ length room → Before (front ++ (gate ∷ left) ++ back)
-  pub whole : (gate : ℕ) → is_open version gate ≡ true → After (front ++ (gate ∷ text) ++ back)
+  pub closed : (gate : ℕ) → opens gate ≡ false → (left : List ℕ) → length left ≡ length room → Before (front ++ (gate ∷ left) ++ back)
+  pub whole : (gate : ℕ) → opens gate ≡ true → After (front ++ (gate ∷ text) ++ back)
   pub blind_before : Blind loose Before
   pub blind_after : Blind loose After
 
@@ -45,9 +44,9 @@ with_gate k gate left = k.front ++ (gate ∷ left) ++ k.back
 
 -- the gate is closed before the fourth call: the device is one of those before, whatever follows it
 abbrev pub AtStage : (loose : ℕ → Bool) (Before After : List ℕ → Type 0) → Stage → DeviceState → ℕ → List ℕ → Type 0
-AtStage loose Before After Body state at text = (k : Guarded loose Before After at text) × (gate : ℕ) × (is_open k.version gate ≡ false) × RestsBut loose state (with_gate k gate k.room)
-AtStage loose Before After BodySync state at text = (k : Guarded loose Before After at text) × (gate : ℕ) × (is_open k.version gate ≡ false) × RestsBut (or_within (at + 1) (length text) loose) state (with_gate k gate text)
-AtStage loose Before After Gate state at text = (k : Guarded loose Before After at text) × (gate : ℕ) × (is_open k.version gate ≡ false) × RestsBut loose state (with_gate k gate text)
+AtStage loose Before After Body state at text = (k : Guarded loose Before After at text) × (gate : ℕ) × (k.opens gate ≡ false) × RestsBut loose state (with_gate k gate k.room)
+AtStage loose Before After BodySync state at text = (k : Guarded loose Before After at text) × (gate : ℕ) × (k.opens gate ≡ false) × RestsBut (or_within (at + 1) (length text) loose) state (with_gate k gate text)
+AtStage loose Before After Gate state at text = (k : Guarded loose Before After at text) × (gate : ℕ) × (k.opens gate ≡ false) × RestsBut loose state (with_gate k gate text)
 AtStage loose Before After GateSync state at text = (k : Guarded loose Before After at text) × RestsBut (or_within at 1 loose) state (with_gate k 165 text)
 AtStage loose Before After Idle state at text = (b : List ℕ) × After b × RestsBut loose state b
 AtStage loose Before After Stopped state at text = Unit {0}

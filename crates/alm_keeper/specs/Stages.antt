@@ -5,7 +5,7 @@ use Rattle.alm_store.specs.declared.phase.Phase.TheVariants as at
 use Rattle.alm_keeper.specs.declared.stage.Work.{Work}
 use Rattle.alm_keeper.specs.declared.stage.Work.TheVariants.{Commit, Checkpoint}
 use Rattle.alm_keeper.specs.declared.stage.Stage.{Stage}
-use Rattle.alm_keeper.specs.declared.stage.Stage.TheVariants.{Idle, Close, CloseSync, Body, BodySync, Gate, GateSync, Stopped}
+use Rattle.alm_keeper.specs.declared.stage.Stage.TheVariants.{Idle, Close, CloseSync, Body, BodySync, Gate, TurnSync, Retire, GateSync, Stopped}
 
 abbrev pub IsWorking : Stage → Type 0
 IsWorking Idle = ⊥
@@ -19,6 +19,8 @@ next_stage CloseSync = Body
 next_stage Body = BodySync
 next_stage BodySync = Gate
 next_stage Gate = GateSync
+next_stage TurnSync = Retire
+next_stage Retire = GateSync
 next_stage stage = Idle
 
 -- the stage after a call
@@ -34,6 +36,11 @@ first_stage false = Body
 -- after all of a checkpoint's run went out its sync is next, else another piece
 abbrev pub sent_stage : (out run : ℕ) → Stage
 sent_stage out run = if out == run then BodySync else Body
+
+-- after the write of a checkpoint's gate: in version 03 the half that stood is shut before the last sync
+abbrev pub turn_stage : (summed : Bool) → Stage
+turn_stage true = TurnSync
+turn_stage false = GateSync
 
 -- after a commit: an open checkpoint waits for its next piece
 abbrev pub rest_stage : (copying : Bool) → Stage
@@ -52,6 +59,8 @@ May Before After CloseSync b = Before b
 May Before After Body b = Before b
 May Before After BodySync b = Before b
 May Before After Gate b = Before b
+May Before After TurnSync b = Before b ⊎ After b
+May Before After Retire b = After b
 May Before After GateSync b = Before b ⊎ After b
 May Before After Stopped b = Before b ⊎ After b
 

@@ -1,5 +1,5 @@
 -- What a keeper knows of its device.
-use Rattle.std.specs.Prelude.{◌≡◌, ℕ, ◌+◌, ◌≤◌, Bool, true, false, List, ◌∷◌, length}
+use Rattle.std.specs.Prelude.{◌≡◌, ℕ, ◌+◌, ◌≤◌, ◌&&◌, Bool, false, not, List, ◌∷◌, length}
 use Rattle.alm_types.specs.declared.action.Action.{Action}
 use Rattle.alm_codec.specs.declared.asked.Asked.{Asked}
 use Rattle.alm_model.specs.Plant.{Condensed}
@@ -10,7 +10,8 @@ use Rattle.alm_codec.specs.Versions.{AreBorne, is_open, newer}
 use Rattle.alm_segment.specs.Course.{frame_len}
 use Rattle.alm_checkpoint.specs.declared.layout.Layout.{Layout}
 use Rattle.alm_checkpoint.specs.declared.half.Half.{Half}
-use Rattle.alm_checkpoint.specs.Layouts.{layout_byte, half_at, half_len, other}
+use Rattle.alm_checkpoint.specs.Layouts.{layout_byte, is_half_open, half_at, half_len, other}
+use Rattle.alm_checkpoint.specs.Headers.{is_summed}
 use Rattle.alm_checkpoint.specs.Cut.{Cut, Stores, Reaches, front, device_of}
 
 -- the device holds this plant in this epoch, before a closed gate
@@ -40,7 +41,11 @@ pub record Account : Type 0 where
 
 -- what a keeper knows of a device that is cut so
 abbrev pub account_of : Cut → Condensed → Account
-account_of c plant = record { layout = c.layout; half = c.half; other_open = is_open c.layout.version (layout_byte c.other 0); version = c.version; epoch = c.epoch; gate = length (front c); plant = plant }
+account_of c plant = record { layout = c.layout; half = c.half; other_open = is_half_open (layout_byte c.other 0); version = c.version; epoch = c.epoch; gate = length (front c); plant = plant }
+
+-- its plant is stored in its epoch
+abbrev pub HoldsIt : Account → List ℕ → Type 0
+HoldsIt a bytes = HoldsPlant a.epoch a.plant bytes
 
 -- the device is as the account says
 pub record Ready (a : Account) (bytes : List ℕ) : Type 0 where
@@ -65,12 +70,20 @@ end_of_half a = half_at a.layout a.half + half_len a.layout
 abbrev pub FitsFrame : Account → ℕ → Type 0
 FitsFrame a n = a.gate + frame_len n + 1 ≤ end_of_half a
 
+-- in version 03 a half takes no frame while the other half's gate is open
+abbrev pub IsAlone : Version → (other_open : Bool) → Type 0
+IsAlone version other_open = (is_summed version && other_open) ≡ false
+
 -- a frame of these actions fits, and the half may hold them
 abbrev pub TakesFrame : Account → List Action → Type 0
-TakesFrame a actions = FitsFrame a (length actions) × AreBorne a.version actions
+TakesFrame a actions = FitsFrame a (length actions) × AreBorne a.version actions × IsAlone a.version a.other_open
 
 abbrev pub TakesAsked : Account → List Asked → Type 0
 TakesAsked a asked = FitsFrame a (length asked) × AreBorne a.version (asked_actions asked)
+
+-- after a checkpoint the half that stood has an open gate, but in version 03 a closed one
+abbrev pub left_open : Version → Bool
+left_open version = not (is_summed version)
 
 -- after a commit, after a checkpoint
 abbrev pub with_commit : Account → List Asked → Account
@@ -78,4 +91,4 @@ with_commit a asked = record a { gate = a.gate + frame_len (length asked); plant
 
 -- .. whose run has this length
 abbrev pub turned_half : Account → (run : ℕ) → Account
-turned_half a run = record a { half = other a.half; other_open = true; version = newer a.version; epoch = a.epoch + 1; gate = other_at a + run }
+turned_half a run = record a { half = other a.half; other_open = left_open a.version; version = newer a.version; epoch = a.epoch + 1; gate = other_at a + run }

@@ -1,6 +1,6 @@
 -- For the proofs.
 -- What a store's laws are of a keeper.
-use Rattle.std.specs.Prelude.{◌≡◌, ◌≢◌, ◌≤◌, true, List, length, ℕ, None, IsSome}
+use Rattle.std.specs.Prelude.{◌≡◌, ◌≢◌, ◌≤◌, List, length, ℕ, None, IsSome}
 use Rattle.std.proofs.Common.{refl}
 use Rattle.alm_disk.specs.Device.{AreBytes}
 use Rattle.alm_model.specs.Plant.{Condensed}
@@ -10,17 +10,16 @@ use Rattle.alm_checkpoint.proofs.Turned.{rules_stored}
 use Rattle.alm_checkpoint.proofs.Unique.{stands_once}
 use Rattle.alm_store.specs.declared.phase.Phase.TheVariants as at
 use Rattle.alm_keeper.specs.declared.stage.Stage.{Stage}
-use Rattle.alm_keeper.specs.declared.stage.Stage.TheVariants.{Idle, Close, CloseSync, Body, BodySync, Gate, GateSync, Stopped}
+use Rattle.alm_keeper.specs.declared.stage.Stage.TheVariants.{Idle, Close, CloseSync, Body, BodySync, Gate, TurnSync, Retire, GateSync, Stopped}
 use Rattle.alm_keeper.specs.declared.stage.Work.{Work}
 use Rattle.alm_keeper.specs.declared.stage.Work.TheVariants.{Commit, Checkpoint}
 use Rattle.alm_keeper.specs.Stages.{phase_of}
-use Rattle.alm_codec.specs.Versions.{is_full}
 use Rattle.alm_codec.proofs.Full.{full_bears}
 use Rattle.alm_keeper.specs.Keeper.{KeeperView, HasRoomFor, next, next_by, begun_by}
 use Rattle.alm_store.specs.Pacing.{TakesAny}
 use Rattle.alm_types.specs.declared.action.Action.{Action}
 use Rattle.alm_store.specs.Advancing.{IsCheckpointing}
-use Rattle.alm_keeper.specs.AsStore.{StandsFor, store_state_of, run_of, is_checkpoint_open, going_if, going_of}
+use Rattle.alm_keeper.specs.AsStore.{StandsFor, IsNewest, store_state_of, run_of, is_checkpoint_open, going_if, going_of}
 use Rattle.alm_store.proofs.Pace.{room_for}
 use Rattle.alm_types.specs.Sizes.{most_entries}
 
@@ -38,6 +37,10 @@ is_idle BodySync Commit e = absurd cc
 is_idle BodySync Checkpoint e = absurd cc
 is_idle Gate Commit e = absurd cc
 is_idle Gate Checkpoint e = absurd cc
+is_idle TurnSync Commit e = absurd cc
+is_idle TurnSync Checkpoint e = absurd cc
+is_idle Retire Commit e = absurd cc
+is_idle Retire Checkpoint e = absurd cc
 is_idle GateSync Commit e = absurd cc
 is_idle GateSync Checkpoint e = absurd cc
 
@@ -55,6 +58,10 @@ rests_by BodySync Commit k other going = absurd (other refl)
 rests_by BodySync Checkpoint k other going = refl
 rests_by Gate Commit k other going = absurd (other refl)
 rests_by Gate Checkpoint k other going = refl
+rests_by TurnSync Commit k other going = absurd (other refl)
+rests_by TurnSync Checkpoint k other going = refl
+rests_by Retire Commit k other going = absurd (other refl)
+rests_by Retire Checkpoint k other going = refl
 rests_by GateSync Commit k other going = absurd (other refl)
 rests_by GateSync Checkpoint k other going = refl
 
@@ -83,6 +90,10 @@ alone_by k BodySync Commit e = absurd cc
 alone_by k BodySync Checkpoint e = absurd cc
 alone_by k Gate Commit e = absurd cc
 alone_by k Gate Checkpoint e = absurd cc
+alone_by k TurnSync Commit e = absurd cc
+alone_by k TurnSync Checkpoint e = absurd cc
+alone_by k Retire Commit e = absurd cc
+alone_by k Retire Checkpoint e = absurd cc
 alone_by k GateSync Commit e = absurd cc
 alone_by k GateSync Checkpoint e = absurd cc
 
@@ -99,6 +110,10 @@ open_by k BodySync Commit e = absurd e
 open_by k BodySync Checkpoint e = refl
 open_by k Gate Commit e = absurd e
 open_by k Gate Checkpoint e = refl
+open_by k TurnSync Commit e = absurd e
+open_by k TurnSync Checkpoint e = refl
+open_by k Retire Commit e = absurd e
+open_by k Retire Checkpoint e = refl
 open_by k GateSync Commit e = absurd e
 open_by k GateSync Checkpoint e = refl
 
@@ -108,6 +123,6 @@ goes_alone k is = alone_by k k.stage k.work is
 pub goes_open : {D : Type 0} (k : KeeperView D) → IsCheckpointing (phase_of k.stage k.work) → IsSome (going_of k)
 goes_open k is = open_by k k.stage k.work is
 
--- if there is room for the longest frame any batch is taken by a half of a version with all actions
-pub fits_any : {D : Type 0} (k : KeeperView D) (actions : List Action) → is_full k.stored.version ≡ true → length actions ≤ most_entries → TakesAny (store_state_of k) → HasRoomFor k.stored actions
-fits_any k actions newest few any = (room_for k.stored.room k.layout.segment (length actions) few any, full_bears k.stored.version actions newest)
+-- if there is room for the longest frame any batch is taken by a half of a version with all actions, which takes frames
+pub fits_any : {D : Type 0} (k : KeeperView D) (actions : List Action) → IsNewest k → length actions ≤ most_entries → TakesAny (store_state_of k) → HasRoomFor k actions
+fits_any k actions newest few any = ((room_for k.stored.room k.layout.segment (length actions) few any, full_bears k.stored.version actions newest.0), newest.1)

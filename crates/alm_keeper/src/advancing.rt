@@ -46,6 +46,7 @@ fn call_next<D: Disk>(disk: &mut D, book: &Book) -> Result<(), DiskFault>
                 book.piece(),
                 book.layout.version,
             ),
+            Stage::Retire => call(disk, Stage::Retire, book.own_at(), &[], book.layout.version),
             stage => call(disk, stage, book.other_at(), &[], book.layout.version),
         },
     }

@@ -9,9 +9,8 @@ use std::alloc::Global;
 
 impl<D: Disk + Drop> Store for Keeper<D> {
     ghost use Rattle.std.specs.Prelude.{◌≡◌, true, ◌≤◌, ◌+◌, ◌-◌, ◌^◌};
-    ghost use Rattle.alm_codec.specs.Versions.{is_full};
-    ghost use Rattle.alm_keeper.specs.Keeper.{HasRoomFor, next};
-    ghost use Rattle.alm_keeper.specs.AsStore.{StandsFor, IsLastEpoch, store_state_of};
+    ghost use Rattle.alm_keeper.specs.Keeper.{HasRoomFor, HasRoomIn, next};
+    ghost use Rattle.alm_keeper.specs.AsStore.{StandsFor, IsLastEpoch, IsNewest, store_state_of};
     ghost use Rattle.alm_keeper.specs.StoreLaws.{fits_any, goes_alone, goes_open, keeps_rules, rests, stands_for_one};
 
     type Device = D;
@@ -22,11 +21,11 @@ impl<D: Disk + Drop> Store for Keeper<D> {
 
     ghost recovers = { StandsFor };
 
-    ghost takes = { λ k actions. HasRoomFor k.stored actions };
+    ghost takes = { λ k actions. HasRoomFor k actions };
 
-    ghost will_take = { λ k actions. HasRoomFor (next k) actions };
+    ghost will_take = { λ k actions. HasRoomIn (next k) actions };
 
-    ghost newest = { λ k. is_full k.stored.version ≡ true };
+    ghost newest = { λ k. IsNewest k };
 
     ghost spent = { IsLastEpoch };
 

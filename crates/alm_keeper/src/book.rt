@@ -1,12 +1,13 @@
 //! What a keeper knows of its device, and what it has begun.
 
 ghost use Rattle.std.specs.Prelude.{◌≡◌, ◌≤◌, ◌<◌, ◌+◌, ◌*◌, ◌-◌, ◌↔◌, IsTrue, length, take, drop, true, false};
-ghost use Rattle.alm_keeper.specs.Stages.{IsWorking, first_stage};
-ghost use Rattle.alm_checkpoint.specs.Layouts.{half_len};
+ghost use Rattle.alm_keeper.specs.Stages.{IsWorking, first_stage, turn_stage};
+ghost use Rattle.alm_checkpoint.specs.Headers.{is_summed};
+ghost use Rattle.alm_checkpoint.specs.Layouts.{half_at, half_len};
 ghost use Rattle.alm_segment.specs.Course.{frame_len};
 ghost use Rattle.alm_model.specs.Judging.{accepted_of};
 ghost use Rattle.alm_keeper.specs.Batch.{accepted_asked};
-ghost use Rattle.alm_keeper.specs.Stand.{other_at, end_of_half, FitsFrame, TakesFrame, with_commit};
+ghost use Rattle.alm_keeper.specs.Stand.{IsAlone, other_at, end_of_half, FitsFrame, TakesFrame, left_open, with_commit};
 ghost use Rattle.alm_keeper.specs.declared.stage.Stage.{Stage};
 ghost use Rattle.alm_keeper.specs.declared.stage.Work.{Work};
 ghost use Rattle.alm_keeper.specs.Stages.{phase_of};
@@ -74,7 +75,32 @@ fn first_stage(other_open: bool) -> Stage
     }
 }
 
+/// Whether a version has checksums. A checkpoint then shuts the half that stood.
+fn is_summed(version: Version) -> bool
+    ensures { result ≡ is_summed version }
+{
+    matches!(version, Version::V03)
+}
+
+/// The call after the write of a checkpoint's gate.
+fn turn_stage(version: Version) -> Stage
+    ensures { result ≡ turn_stage (is_summed version) }
+{
+    if is_summed(version) {
+        Stage::TurnSync
+    } else {
+        Stage::GateSync
+    }
+}
+
 impl Book {
+    /// The place of the gate of the half that stands.
+    pub fn own_at(&self) -> u64
+        ensures { result ≡ half_at self.now.layout self.now.half }
+    {
+        self.layout.half_at(self.half)
+    }
+
     /// The place of the gate of the other half.
     pub fn other_at(&self) -> u64
         ensures { result ≡ other_at (account self.now) }
@@ -231,7 +257,7 @@ impl Book {
     {
         self.gate = self.other_at() + self.run as u64;
         self.half = self.half.other();
-        self.other_open = true;
+        self.other_open = !is_summed(self.version);
         self.version = self.version.newer();
         self.epoch += 1;
         self.copying = false;
@@ -301,6 +327,17 @@ impl Book {
                 Progress::More
             }
             Stage::Gate => {
+                self.stage = match self.work {
+                    Work::Commit => Stage::GateSync,
+                    Work::Checkpoint => turn_stage(self.version),
+                };
+                Progress::More
+            }
+            Stage::TurnSync => {
+                self.stage = Stage::Retire;
+                Progress::More
+            }
+            Stage::Retire => {
                 self.stage = Stage::GateSync;
                 Progress::More
             }
@@ -345,12 +382,19 @@ impl Book {
         self.fits(batch.entries().len()) || self.fits(accepted_in(batch))
     }
 
+    /// Whether the half that stands takes frames: in version 03 only if the other half's gate is closed.
+    fn is_alone(&self) -> bool
+        ensures { IsTrue result ↔ IsAlone self.now.version self.now.other_open }
+    {
+        !(is_summed(self.version) && self.other_open)
+    }
+
     /// Whether a frame of a batch's accepted actions fits after what is stored, and the half may hold them.
     pub fn takes(&self, batch: &Batch) -> bool
         requires { InOrder self.now }
         ensures { IsTrue result ↔ TakesFrame (account self.now) (accepted_of batch.now.entries) }
     {
-        self.fits_accepted(batch) && bears_all(self.version, batch.entries())
+        self.fits_accepted(batch) && bears_all(self.version, batch.entries()) && self.is_alone()
     }
 
     /// Begins a checkpoint, without a device call: the stored plant is copied. The other half's gate is closed first only if it

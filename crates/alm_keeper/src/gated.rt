@@ -36,6 +36,8 @@ pub fn call<D: Disk>(
         Stage::Body => disk.write_at(at + 1, text),
         Stage::BodySync => disk.sync(),
         Stage::Gate => disk.write_at(at, &[OPEN_GATE]),
+        Stage::TurnSync => disk.sync(),
+        Stage::Retire => disk.write_at(at, &[version.closed_gate()]),
         Stage::GateSync => disk.sync(),
         Stage::Idle | Stage::Stopped => unreachable!(),
     }

@@ -13,6 +13,7 @@ ghost use Rattle.alm_disk.specs.Settled.{IsSettled};
 ghost use Rattle.alm_model.specs.Judging.{accepted_of};
 ghost use Rattle.alm_store.specs.Calls.{IsCall, AreDone, SyncsAndEndsIn};
 ghost use Rattle.alm_keeper.specs.Stages.{IsWorking, phase_of};
+ghost use Rattle.alm_keeper.specs.Stand.{IsAlone};
 ghost use Rattle.alm_store.specs.Advancing.{IsResting};
 ghost use Rattle.alm_keeper.specs.Formatted.{IsFormatted, IsLeftBy};
 ghost use Rattle.alm_keeper.specs.Opening.{OpensAs, CountsAs};
@@ -93,7 +94,7 @@ impl<D: Disk + Drop> Keeper<D> {
     #[tactic(auto, using(crate::proofs::Seen::begins_seen))]
     pub fn begin(&mut self, batch: &Batch) -> Result<(), Refused>
         requires some { 1 ≤ length (accepted_of batch.now.entries) }
-        requires takes { HasRoomFor self.old.stored (accepted_of batch.now.entries) }
+        requires takes { HasRoomFor self.old (accepted_of batch.now.entries) }
         ensures disk { self.new.disk ≡ self.old.disk }
         ensures answer { result ≡
             begin_answer (phase_of self.old.stage self.old.work) self.old.stored.plant batch.now }
@@ -122,9 +123,10 @@ impl<D: Disk + Drop> Keeper<D> {
             ∥ IsStoredIn self.now.stored b ⊎ IsStoredIn (next self.now) b ∥₁ }
         ensures rests { D.honest self.now.disk → IsResting (phase_of self.now.stage self.now.work) →
             ∥ StandsWithRoom self.now.stored (D.state self.now.disk).bytes ∥₁ }
-        // The half that stands, and the lengths by which `call_of` has its places.
+        // The half that stands, the other one's gate, and the lengths by which `call_of` has its places.
         ensures lies { D.honest self.now.disk → IsResting (phase_of self.now.stage self.now.work) →
-            ∥ LiesIn self.now.half self.now.layout (D.state self.now.disk).bytes ∥₁ }
+            ∥ LiesIn self.now.half self.now.layout self.now.other_open
+            (D.state self.now.disk).bytes ∥₁ }
         // The largest image, and the longest segment.
         ensures lengths { (image_size self.now.layout ≤ largest) ×
             (self.now.layout.segment ≤ longest_segment) }
@@ -132,11 +134,14 @@ impl<D: Disk + Drop> Keeper<D> {
         ensures runs { IsWorking self.now.stage → self.now.work ≡ Work.Checkpoint →
             (self.now.out ≤ self.now.run) ×
             (self.now.run + self.now.stored.room ≤ half_len self.now.layout) }
-        // A frame has at most 256 actions, and its commit comes before a piece of an open checkpoint,
+        // A frame has at most 256 actions, and its commit comes before a piece of an open checkpoint.
         ensures frames { IsWorking self.now.stage → self.now.work ≡ Work.Commit →
             (length self.now.asked ≤ most_entries) ×
             (self.now.copying ≡ true → self.now.out + 1 ≤ self.now.run) }
-        // which has a byte or more.
+        // In version 03 a commit is under way only beside a closed half: so a damaged gate of the half that stands is told.
+        ensures alone { IsWorking self.now.stage → self.now.work ≡ Work.Commit →
+            IsAlone self.now.stored.version self.now.other_open }
+        // A piece of a checkpoint has a byte or more.
         ensures pieces { self.now.stage ≡ Stage.Body → self.now.work ≡ Work.Checkpoint →
             self.now.out + 1 ≤ self.now.run }
         // If it is idle none is open, and one is if it is under way.
@@ -230,10 +235,11 @@ impl<D: Disk + Drop> Keeper<D> {
     }
 
     /// Whether a frame of a batch's accepted actions fits after what is stored, and the half that stands may hold them.
-    /// One of version 01 holds no PRIO and no SETP, so a checkpoint comes first.
+    /// One of version 01 holds no PRIO and no SETP, so a checkpoint comes first. One of version 03 holds nothing while the gate of
+    /// the other half is open: so it does after a checkpoint whose last two calls a loss of power has cut off.
     #[tactic(auto, using(crate::proofs::Seen::takes_seen, crate::proofs::Seen::takes_of))]
     pub fn takes(&self, batch: &Batch) -> bool
-        ensures { IsTrue result ↔ HasRoomFor self.now.stored (accepted_of batch.now.entries) }
+        ensures { IsTrue result ↔ HasRoomFor self.now (accepted_of batch.now.entries) }
     {
         self.book.takes(batch)
     }

@@ -38,6 +38,12 @@ pub fn a_commit_says_who_asked()
         s.cut.version s.cut.epoch (s.plant.panel.count + 1) asked) bytes)) }
 {}
 
+/// A device says one list of actions with who asked.
+pub fn one_list_of_who_asked()
+    ensures { (bytes : List ℕ) (before after : List Asked) → Says before bytes →
+        Says after bytes → before ≡ after }
+{}
+
 /// What each device call leaves at any moment of it, done or failed, and what is kept after it was done. It covers a commit, a
 /// checkpoint in any pieces, and a commit between its pieces.
 pub fn each_call_keeps_what_is_under_way()

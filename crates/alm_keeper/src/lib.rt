@@ -18,6 +18,8 @@
 //! | `Body` | writes what the gate guards, the next gate closed: a frame, or one piece of a checkpoint's run | what is stored |
 //! | `BodySync` | sync | what is stored |
 //! | `Gate` | writes the gate open, one byte | what is stored, or what is begun |
+//! | `TurnSync` (only in a checkpoint of version 03) | sync | what is stored, or what is begun |
+//! | `Retire` (after it) | writes the gate of the half that stood closed | what is begun |
 //! | `GateSync` | sync | what is stored, or what is begun |
 //! | then `Idle`, or `Body` of an open checkpoint | | what was begun: now it is stored |
 //! | `Stopped`, if a call failed | none until the device is opened again | what is stored, or what was begun |
@@ -32,8 +34,12 @@
 //! PRIO nor SETP. A checkpoint makes a half of version 03 if the one that stands is of version 03, else one of version 02. So if
 //! [`Keeper::takes`] is false because of an action's kind, a checkpoint comes first.
 //!
-//! A gate is one byte, open if it is 0xA5, and in version 03 if it isn't 0x5A. A commit writes the body of a frame after the first closed gate of the half that
-//! stands; a checkpoint writes its run after the gate of the other half.
+//! A gate is one byte. That of a half is open if it is 0xA5, and so is that of a frame, which in version 03 is open if it isn't
+//! 0x5A. A commit writes the body of a frame after the first closed gate of the half that stands; a checkpoint writes its run
+//! after the gate of the other half.
+//!
+//! In version 03 the half that stood is shut as a checkpoint ends, so that no damaged gate lets it stand again beside later
+//! commits. Where a loss of power came before that, `takes` is false until another checkpoint has shut it.
 //!
 //! The definitions are in specs/:
 //!

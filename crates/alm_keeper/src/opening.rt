@@ -133,12 +133,12 @@ fn marks_of(layout: Layout, first: &[u8], second: &[u8]) -> Result<Marks, OpenFa
     match layout.read_heads(first, second) {
         Ok((Half::First, head)) => Ok(Marks {
             half: Half::First,
-            other_open: read_half_gate(second, layout.version).open,
+            other_open: read_half_gate(second).open,
             head,
         }),
         Ok((Half::Second, head)) => Ok(Marks {
             half: Half::Second,
-            other_open: read_half_gate(first, layout.version).open,
+            other_open: read_half_gate(first).open,
             head,
         }),
         Err(fault) => Err(open_fault(fault)),

@@ -20,7 +20,11 @@ pub enum Stage {
     BodySync,
     /// The gate is written open.
     Gate,
-    /// .. and synced: the work is done.
+    /// .. and synced, if a checkpoint of version 03 has a gate to close still.
+    TurnSync,
+    /// It writes the gate of the half that stood closed.
+    Retire,
+    /// The gate that was written last is synced: the work is done.
     GateSync,
     /// A device call has failed, or a batch wasn't accepted: no call is made any more.
     Stopped,

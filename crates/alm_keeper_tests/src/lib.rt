@@ -23,6 +23,8 @@ mod refused;
 #[cfg(test)]
 mod rows;
 #[cfg(test)]
+mod shut_half;
+#[cfg(test)]
 mod steps;
 #[cfg(test)]
 mod versions;

@@ -1,4 +1,4 @@
-use Rattle.alm_keeper.proofs.Standings.{images_of, rest_of, lies_of, lengths_of, runs_of, frames_of, pieces_of, copies_of}
+use Rattle.alm_keeper.proofs.Standings.{images_of, rest_of, lies_of, lengths_of, runs_of, frames_of, alone_of, pieces_of, copies_of}
 use Rattle.alm_keeper.proofs.keeper.Keeper.images.Goals as goal
 
 pub returns-clause-either : goal.returns-clause-either
@@ -24,3 +24,6 @@ returns-clause-copies g c = copies_of g.D.Disk.honest g.D.Disk.state c.self.insi
 
 pub returns-clause-lies : goal.returns-clause-lies
 returns-clause-lies g c = lies_of g.D.Disk.honest g.D.Disk.state c.self.inside.disk c.self.inside.book c.args.self.now c.self.view_is c.self.invariant.0 c.self.invariant.2
+
+pub returns-clause-alone : goal.returns-clause-alone
+returns-clause-alone g c = alone_of g.D.Disk.honest g.D.Disk.state c.self.inside.disk c.self.inside.book c.args.self.now c.self.view_is c.self.invariant.0 c.self.invariant.2
