@@ -46,8 +46,8 @@ def on_device(calls):
 class Layout:
     """Where the parts of a device stand."""
 
-    def __init__(self, size, alarms, areas):
-        self.size = size
+    def __init__(self, size, alarms, areas, version="02"):
+        self.size, self.version = size, version
         self.image = IMAGE + AREA * areas + ALARM * alarms
         self.segment = (size - HEADER) // 2 - HEAD - self.image
         self.used = HEADER + 2 * (HEAD + self.image + self.segment)
@@ -103,11 +103,13 @@ def formatting(layout):
 
 
 def checkpoint(layout, half, is_open):
-    """A checkpoint in a half, whose gate is closed first if it is open."""
+    """A checkpoint in a half, whose gate is closed first if it is open. In version 03 the other half's is closed at its
+    end."""
     closes = [("pwrite", layout.half(half), 1), SYNC] if is_open else []
     body = HEAD - 1 + layout.image + 1
     pieces = [("pwrite", layout.half(half) + 1 + at, min(PIECE, body - at)) for at in range(0, body, PIECE)]
-    return [*closes, *pieces, SYNC, ("pwrite", layout.half(half), 1), SYNC]
+    shuts = [("pwrite", layout.half(1 - half), 1), SYNC] if layout.version == "03" else []
+    return [*closes, *pieces, SYNC, ("pwrite", layout.half(half), 1), SYNC, *shuts]
 
 
 def commits(layout, count):
@@ -118,7 +120,7 @@ def commits(layout, count):
         if 2 * (at - layout.frames(half)) > layout.segment:
             half = 1 - half
             calls += checkpoint(layout, half, was_open)
-            at, was_open = layout.frames(half), True
+            at, was_open = layout.frames(half), layout.version != "03"
         calls += gated(at, FRAME)
         at += FRAME
     return calls

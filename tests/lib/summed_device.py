@@ -65,14 +65,12 @@ class SummedDevice:
         return found
 
     def spell_03(self, slots: Sequence[int] = ()) -> None:
-        """Makes of a device of version 02 one of version 03. These slots asked for the device's actions, from its first
-        on; of the rest it isn't said."""
+        """Makes of a device of version 02 one of version 03: the half that stands, and the other one's gate is closed.
+        These slots asked for the device's actions, from its first on; of the rest it isn't said."""
         self.bytes[8] = ord("3")
-        for half in (0, 1):
-            if self.bytes[self.half(half)] == OPEN:
-                self.spell_half(half, slots)
-            else:
-                self.bytes[self.half(half)] = CLOSED
+        standing = self.standing()
+        self.spell_half(standing, slots)
+        self.bytes[self.half(1 - standing)] = CLOSED
 
     def spell_half(self, half: int, slots: Sequence[int]) -> None:
         """The same of one half, whose header is of version 03."""

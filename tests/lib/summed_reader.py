@@ -55,7 +55,7 @@ def found(text: bytes) -> Found:
 
 def of_halves(text: bytes, halves: list[Half]) -> Found:
     """Judges the gates, and the half that stands."""
-    opened = [half for half in halves if is_open(text, half.at)]
+    opened = [half for half in halves if text[half.at] == OPEN]
     if not opened:
         return Found(f"damaged 2 {HEADER}")
     epochs = [text[half.at + 1 : half.at + 9] for half in opened]
@@ -69,7 +69,7 @@ def of_halves(text: bytes, halves: list[Half]) -> Found:
 
 
 def is_open(text: bytes, at: int) -> bool:
-    """Whether the gate of a half or of a frame is open."""
+    """Whether the gate of a frame is open."""
     return text[at] != CLOSED if text[1:9] == NAMES[2] else text[at] == OPEN
 
 

@@ -158,7 +158,8 @@ class Faults:
         course = Course(self.program, self.folder, seed, count, version=version)
         lines = b"".join(course.lines)
         said, made = self.whole(["desk", course.device()], lines)
-        check_list(split_opening(on_device(made), opening(), "desk"), commits(LAYOUT, said.count(b" OK ")), "desk")
+        wanted = commits(Layout(LAYOUT.size, 4, 2, version), said.count(b" OK "))
+        check_list(split_opening(on_device(made), opening(), "desk"), wanted, "desk")
         kinds = {
             "pwrite": ERRORS + ["short"],
             "fdatasync": ERRORS,

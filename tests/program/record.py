@@ -172,7 +172,7 @@ class Records:
     def due(self):
         """The calls of a run that answers this many actions, one after the other, and the places of the syncs behind
         which each has to be stored."""
-        calls = [SYNC, *reads(0), *commits(LAYOUT, self.count)]
+        calls = [SYNC, *reads(0), *commits(Layout(LAYOUT.size, 4, 2, self.version), self.count)]
         gates = [
             place
             for place, call in enumerate(calls)

@@ -3,18 +3,18 @@
 
     tests/program/summed_damage.py PROGRAM [--short]
 
-Half 0 stands, with frames; half 1 stands behind a turn, with frames, while the older half's gate is still open; the
-same once that gate is closed. What the program made is FORMAT's spelling. Then:
+Half 0 stands, with frames; half 1 stands behind a turn, with frames; half 0 stands again behind another one. What the
+program made is FORMAT's spelling. Then:
 
 - Each bit flips that is read, in a short run some of the image's; of the others some that are drawn.
 - Each byte of header, heads and frames, and each closed gate, gets twelve other values, in a short run some of them;
   each gate gets all others.
 - Sectors of 512 and 4,096 bytes become zeros, ones, garbage, change places, or are again what the file had before.
 - One field is changed, without its checksum and with it.
-- A closed gate flips open before what a power failure has left whole.
+- A closed gate of a frame flips open before what a power failure has left whole; so does that of a half.
 
 Each is refused at FORMAT's place, or shows the plant as it was. Silent, so that another plant is shown without a fault,
-are a gate that becomes 5A, and sectors that go back to what they were: these are counted.
+are a frame's gate that becomes 5A, and sectors that go back to what they were: these are counted.
 """
 import random
 import sys
@@ -96,9 +96,8 @@ def counted(openings: Openings, changes: list[tuple[str, Change]]) -> tuple[Coun
 
 
 def silent_gates(worked: Worked) -> list[Change]:
-    """A gate of the journal that becomes 5A; and that of the half that stands, if the other half's is open."""
-    half = [worked.device.half(worked.half)] if worked.has_other() else []
-    return [((at, bytes([CLOSED])),) for at in sorted([*half, *worked.gates()])]
+    """A gate of the journal that becomes 5A."""
+    return [((at, bytes([CLOSED])),) for at in sorted(worked.gates())]
 
 
 def try_device(worked: Worked, openings: Openings, is_short: bool) -> list[tuple[str, Counts]]:
@@ -116,24 +115,31 @@ def try_device(worked: Worked, openings: Openings, is_short: bool) -> list[tuple
 
 
 def try_cut(courses: Courses) -> None:
-    """A closed gate that flips open, where a power failure left something whole behind it: that counts. A frame was
-    then never answered, and a half holds the same plant."""
+    """A closed gate that flips, where a power failure left something whole behind it. A frame counts then: nobody was
+    answered. Of two halves none hides what the other one has."""
     device = courses.made_at(0, FEW)
-    counts = try_gate(courses, device, device.frames(True)[-1][0])
-    check(counts == (FEW - 1, FEW), "of a commit that was cut so many actions count, and then:", counts)
-    device = courses.made_at(1, 1)
+    counts = try_gate(courses, device, device.frames(True)[-1][0], CLOSED)
+    check(counts == (FEW - 1, {FEW}), "of a commit that was cut so many actions count, and then:", counts)
+    # A checkpoint was cut before its gate, and half 0 went on with two actions more.
+    turned, frames = courses.made_at(1, 1), device.frames(True)
+    device = courses.made_at(0, FEW)
+    device.bytes[device.half(1) :] = turned.bytes[device.half(1) :]
     device.bytes[device.journal(1)] = CLOSED
-    counts = try_gate(courses, device, device.half(1))
-    check(counts[0] == counts[1], "of a checkpoint that was cut so many actions count, and then:", counts)
+    counts = try_gate(courses, device, device.half(1), CLOSED)
+    check(counts == (len(frames), {len(frames)}), "beside a checkpoint that was cut so many actions count:", counts)
+    # The power failed before the half that stood was shut: both have the same plant.
+    device = courses.made_at(1, 1)
+    device.bytes[device.journal(1)], device.bytes[device.half(0)] = CLOSED, OPEN
+    counts = try_gate(courses, device, device.half(1), OPEN)
+    check({counts[0]} == counts[1], "of two open halves so many actions count, and then:", counts)
 
 
-def try_gate(courses: Courses, device: SummedDevice, gate: int) -> tuple[int, int]:
-    """Closes a gate, and flips each bit of it. How many actions are shown, and then with each of the flips."""
-    device.bytes[gate] = CLOSED
+def try_gate(courses: Courses, device: SummedDevice, gate: int, value: int) -> tuple[int, set[int]]:
+    """A gate has a value, and each bit of it flips. How many actions are shown, and then with any of the flips."""
+    device.bytes[gate] = value
     openings = Openings(courses.program, courses.folder, bytes(device.bytes))
-    shown = {openings.shown(((gate, bytes([CLOSED ^ 1 << bit])),)) for bit in range(8)}
-    check(len(shown) == 1, "the closed gate at", gate, "shows", shown)
-    return count_of(openings.before), count_of(*shown)
+    shown = {openings.shown(((gate, bytes([value ^ 1 << bit])),)) for bit in range(8)}
+    return count_of(openings.before), {count_of(one) for one in shown}
 
 
 def said_of(what: str, counts: Counts) -> str:

@@ -9,7 +9,7 @@ from dataclasses import dataclass, field
 from typing import Iterator, Sequence
 
 from lib.program import PLANT, Desk, Fault, Wrong, check, draw_lines, ends, run_words
-from lib.summed_device import ACTION, CLOSED, FRAME_HEAD, HEAD, HEADER, SummedDevice
+from lib.summed_device import ACTION, CLOSED, FRAME_HEAD, HEADER, SummedDevice
 from lib.summed_reader import found
 
 # Bytes at places.
@@ -18,7 +18,7 @@ SEED, LINES, JOINED = 5, 200, 3
 # So many frames stand in the first device, and behind the turn.
 FEW, BEHIND = 9, 8
 # Each part of a device, as it is counted.
-PARTS = ("header", "head that stands", "other head", "image", "frame", "closed gate", "not read")
+PARTS = ("header", "head that stands", "image", "frame", "closed gate", "not read")
 
 
 @dataclass
@@ -39,10 +39,6 @@ class Worked:
     def half(self) -> int:
         return found(self.bytes).half
 
-    def has_other(self) -> bool:
-        """Whether the gate of the other half is open too."""
-        return self.bytes[self.device.half(1 - self.half)] != CLOSED
-
     def name_parts(self) -> None:
         """Says of each byte which part it is of."""
         self.parts = ["not read"] * len(self.bytes)
@@ -52,10 +48,7 @@ class Worked:
         self.name_part("image", self.device.image_at(self.half), self.device.journal(self.half))
         self.name_part("frame", self.device.journal(self.half), ends_at)
         self.name_part("closed gate", ends_at, ends_at + 1)
-        if self.has_other():
-            self.name_part("other head", other, other + HEAD)
-        else:
-            self.name_part("closed gate", other, other + 1)
+        self.name_part("closed gate", other, other + 1)
 
     def name_part(self, name: str, at: int, end: int) -> None:
         self.parts[at:end] = [name] * (end - at)
@@ -154,42 +147,39 @@ class Courses:
     def worked(self) -> Iterator[Worked]:
         """The devices, each as soon as it stands so."""
         yield self.one("half 0 stands", self.at(0, FEW))
-        place = self.at(1, BEHIND)
-        yield self.one("behind a turn", place)
-        yield self.one("half 1 stands", place, True)
+        yield self.one("half 1 stands", self.at(1, BEHIND))
+        yield self.one("half 0 stands again", self.at(0, BEHIND, 3))
 
-    def at(self, half: int, frames: int) -> int:
-        """After how many answers that half stands with so many frames."""
+    def at(self, half: int, frames: int, epoch: int = 0) -> int:
+        """After how many answers that half stands with so many frames, in an epoch or in the first that it has."""
         for place, device in enumerate(self.spelled):
             if device.standing() == half and len(device.frames(True, half)) == frames:
-                return place
+                if epoch in (0, int.from_bytes(device.bytes[device.half(half) + 1 : device.half(half) + 9], "big")):
+                    return place
         raise Wrong(f"no answer leaves half {half} with {frames} frames")
 
     def made_at(self, half: int, frames: int) -> SummedDevice:
         """The device of version 03 once that half stands with so many frames."""
         return device_of(self.made[self.at(half, frames)], os.path.join(self.folder, "made"))
 
-    def one(self, name: str, place: int, closes: bool = False) -> Worked:
-        """A device of version 03 after so many answers. The other half is closed as a checkpoint begins, if asked."""
+    def one(self, name: str, place: int) -> Worked:
+        """A device of version 03 after so many answers."""
         spelled, made = self.spelled[place], self.made[place]
         half = spelled.standing()
         for part in counted(spelled, half):
             check(spelled.bytes[part] == made[part], name, "isn't spelled as FORMAT has it at", part)
         device = device_of(made, os.path.join(self.folder, "made"))
         join_frames(device, half)
-        if closes:
-            device.bytes[device.half(1 - half)] = CLOSED
         worked = Worked(name, bytes(device.bytes), device, self.made[:place])
         worked.name_parts()
         return worked
 
 
 def counted(device: SummedDevice, half: int) -> list[slice]:
-    """The parts of a device that are read: header, the half that stands, and of the other one gate and head."""
+    """The parts of a device that are read: header, the half that stands, and the gate of the other one."""
     other = device.half(1 - half)
     end = device.frames(True, half)[-1][1] + 1
-    is_open = device.bytes[other] != CLOSED
-    return [slice(0, HEADER), slice(device.half(half), end), slice(other, other + (HEAD if is_open else 1))]
+    return [slice(0, HEADER), slice(device.half(half), end), slice(other, other + 1)]
 
 
 def device_of(text: bytes, path: str) -> SummedDevice:

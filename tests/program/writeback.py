@@ -54,7 +54,7 @@ from lib.server import Lines
 from failing_disk import Disk, SYSTEMS
 
 LAYOUT = Layout(28_997, 4, 2)  # of the worked plant
-# How many lines: before the run, with a checkpoint; in the run, with the next one, which closes an open gate first;
+# How many lines: before the run, with a checkpoint; in the run, with the next one, which closes a half's gate as well;
 # after the failure.
 BEFORE, RUN, AFTER = 150, 64, 34
 BODIES = {"ignores": "ignores a failed sync", "keeps": "never lets the kernel forget"}

@@ -13,7 +13,7 @@ from typing import Callable, Iterator, Optional, TypeVar
 from .actions import Action
 from .ending import Fault
 from .device_frames import frame_fault, head_of_frame, sum_fault
-from .device_heads import SUMMED_NAME, head_fault, image_sum_fault, is_open
+from .device_heads import SUMMED_NAME, head_fault, image_sum_fault, is_frame_open, is_half_open
 from .device_rules import (
     ACTION,
     ACTIONS,
@@ -130,12 +130,12 @@ class DeviceFile:
         return self.head_of_text(half, self.read(self.half_at(half), 17), False)
 
     def is_open(self, gate: bytes) -> bool:
-        """Whether a gate of a half or of a frame is open."""
-        return is_open(gate, self.name)
+        """Whether the gate of a frame is open."""
+        return is_frame_open(gate, self.name)
 
     def head_of_text(self, half: int, text: bytes, is_shown: bool) -> Optional[Head]:
         """The head in the first bytes of a half, where its gate is open or not, as is asked."""
-        if len(text) < 17 or self.is_open(text[:1]) != is_shown:
+        if len(text) < 17 or is_half_open(text[:1]) != is_shown:
             return None
         epoch, marked = struct.unpack(">QQ", text[1:])
         return Head(half, epoch, marked >> 56, marked & (2**56 - 1))
@@ -155,7 +155,7 @@ class DeviceFile:
         """Raises `Damaged` where a head breaks its rules; in version 03 also where the other one does, if its gate is
         open."""
         self.judge_head_of(head.half)
-        if self.name == SUMMED_NAME and self.is_open(self.read(self.half_at(1 - head.half), 1)):
+        if self.name == SUMMED_NAME and is_half_open(self.read(self.half_at(1 - head.half), 1)):
             self.judge_head_of(1 - head.half)
 
     def judge_head_of(self, half: int) -> None:

@@ -1,20 +1,25 @@
-"""The gates and the heads of a device's halves, by the name in its header: those of version 03 have other gates, and
-two checksums in place of a length."""
+"""The gates and the heads of a device's halves, by the name in its header: those of version 03 have two checksums in
+place of a length, and its frames have other gates."""
 import struct
 from typing import Optional
 
 from .checksum import checksum
 from .device_rules import COUNTS, GATE_OPEN, MARKS, Broken, first_broken
 
-# The name of a device that has checksums, and the value at which its gates are closed.
+# The name of a device that has checksums, and the value at which its frames' gates are closed.
 SUMMED_NAME = b"ALMSRV03"
 GATE_CLOSED = 0x5A
 # Where the last field of a head before its own checksum begins, and where that begins.
 IMAGE_SUM, HEAD_SUM = 17, 21
 
 
-def is_open(gate: bytes, name: bytes) -> bool:
-    """Whether a gate is open, which has one byte; none where a segment was cut."""
+def is_half_open(gate: bytes) -> bool:
+    """Whether the gate of a half is open, which has one byte; none where a device was cut."""
+    return gate == bytes([GATE_OPEN])
+
+
+def is_frame_open(gate: bytes, name: bytes) -> bool:
+    """Whether the gate of a frame is open, which has one byte; none where a segment was cut."""
     if name == SUMMED_NAME:
         return len(gate) == 1 and gate[0] != GATE_CLOSED
     return gate == bytes([GATE_OPEN])

@@ -39,7 +39,7 @@ no_half_stands l device header shut =
     inl (ap (λ (r : Result Layout DeviceFault). r >>= λ l. heads_in l device >>= λ x. Ok (opened_half l x.0 x.1 device)) header
     ∙ ap (λ (r : Result (Half × HalfHead) DeviceFault). r >>= λ x. Ok (opened_half l x.0 x.1 device)) (none_stands l device shut))
 
--- one byte behind the header is changed
+-- one byte after the header is changed
 module _ (front back : List ℕ) (old new : ℕ) where
   abbrev was : List ℕ
   was = front ++ old ∷ back

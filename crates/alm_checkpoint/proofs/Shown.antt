@@ -222,7 +222,7 @@ shown_opens c plant tail s reaches =
     (laid 165 c.layout c.half (head_before c.version c.epoch c.base) (image_text c.base) (frames_text c.version c.epoch c.base.panel.count c.frames) tail c.other c.rest (image_is_long c.layout c.base s.sizes s.image) reaches s.size)
     refl s.layout (head_fits c plant s) s.below
 
--- .. beside the other half
+-- .. and so does the gate of the other half
 pub shown_beside : (c : Cut) (plant : Condensed) (tail : List ℕ) → Stores c plant → Reaches c tail → gate_in (head_of c.layout (other c.half) (device_of c tail)) ≡ gate_in c.other
 shown_beside c plant tail s reaches =
     gate_beside (device_of c tail) c.other c.layout (other c.half)

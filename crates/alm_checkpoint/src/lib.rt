@@ -51,8 +51,8 @@
 //!
 //! Only [`recover`] and [`Layout::restore`] take memory, and a fault `OutOfMemory` says nothing about the bytes. Not covered:
 //! that memory suffices, which tests show. Versions 01 and 02 have no checksum: damage that breaks no rule is not found. In
-//! version 03 a change of one byte is found but in gates. Of the half that stands a changed gate is told if the other half's is
-//! closed. A frame's open gate that becomes 5A ends the journal there, as if its commit had not ended; so do bytes that were there
+//! version 03 a change of one byte is found but in gates. Of the half that stands a changed gate is reported if the other half's
+//! is closed. A frame's open gate that becomes 5A ends the journal there, as if its commit had not ended; so do bytes that were there
 //! earlier and come back whole.
 //!
 //! Proved:
@@ -60,8 +60,9 @@
 //!   they are read (by `recover`, `Layout::restore`, `read_header`, `choose`, `laws`)
 //! - what lies after the first closed gate or in the other half changes nothing; the longest segment that fits twice (by
 //!   `laws`, `Layout::longest`)
-//! - in version 03 a head or an image of which one byte was changed is damaged, and whatever open gates the frames have, the
-//!   same plant stands; a changed gate of the half that stands is damage if the other half's is closed (by `laws`)
+//! - in version 03 a head or an image of which one byte was changed is damaged; whatever open gates the frames have, the
+//!   same plant stands (by `laws`)
+//! - a changed gate of the half that stands is damage if the other half's is closed (by `laws`)
 #![tactic(auto)]
 
 mod device_fault;

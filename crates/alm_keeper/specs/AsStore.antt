@@ -30,7 +30,7 @@ IsNewest k = (is_full k.stored.version ≡ true) × IsAlone k.stored.version k.o
 abbrev pub pieces : ℕ → ℕ
 pieces left = (left - 1) / most + 1
 
--- how many device calls at most write and open what a gate guards, and in version 03 shut the half that stood; `left` bytes of
+-- how many device calls at most write and open what a gate guards, and in version 03 shut the half that stood. `left` bytes of
 -- a run are still to be written
 abbrev pub gate_calls : Work → ℕ
 gate_calls Commit = 2

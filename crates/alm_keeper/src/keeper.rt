@@ -138,7 +138,7 @@ impl<D: Disk + Drop> Keeper<D> {
         ensures frames { IsWorking self.now.stage → self.now.work ≡ Work.Commit →
             (length self.now.asked ≤ most_entries) ×
             (self.now.copying ≡ true → self.now.out + 1 ≤ self.now.run) }
-        // In version 03 a commit is under way only beside a closed half: so a damaged gate of the half that stands is told.
+        // In version 03 a commit is under way only while the other half's gate is closed: so no damaged gate lets that one stand.
         ensures alone { IsWorking self.now.stage → self.now.work ≡ Work.Commit →
             IsAlone self.now.stored.version self.now.other_open }
         // A piece of a checkpoint has a byte or more.
@@ -236,7 +236,7 @@ impl<D: Disk + Drop> Keeper<D> {
 
     /// Whether a frame of a batch's accepted actions fits after what is stored, and the half that stands may hold them.
     /// One of version 01 holds no PRIO and no SETP, so a checkpoint comes first. One of version 03 holds nothing while the gate of
-    /// the other half is open: so it does after a checkpoint whose last two calls a loss of power has cut off.
+    /// the other half is open: a loss of power cut off the last two calls of a checkpoint.
     #[tactic(auto, using(crate::proofs::Seen::takes_seen, crate::proofs::Seen::takes_of))]
     pub fn takes(&self, batch: &Batch) -> bool
         ensures { IsTrue result ↔ HasRoomFor self.now (accepted_of batch.now.entries) }

@@ -38,8 +38,8 @@
 //! 0x5A. A commit writes the body of a frame after the first closed gate of the half that stands; a checkpoint writes its run
 //! after the gate of the other half.
 //!
-//! In version 03 the half that stood is shut as a checkpoint ends, so that no damaged gate lets it stand again beside later
-//! commits. Where a loss of power came before that, `takes` is false until another checkpoint has shut it.
+//! In version 03 the half that stood is shut as a checkpoint ends, so that no damaged gate lets it stand again in place of
+//! later commits. Where a loss of power came before that, `takes` is false until another checkpoint has shut it.
 //!
 //! The definitions are in specs/:
 //!
