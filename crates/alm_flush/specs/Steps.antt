@@ -1,12 +1,12 @@
 -- What a step of a flusher makes of its store: of the device, of the batch under way, in which order, at which pace,
 -- and why it fails.
-use Rattle.std.specs.Prelude.{◌≡◌, ◌≢◌, ◌↔◌, ◌⊎◌, ◌*◌, ◌<◌, ◌≤◌, ℕ, List, [], length, None, true}
+use Rattle.std.specs.Prelude.{◌≡◌, ◌≢◌, ◌↔◌, ◌⊎◌, ◌*◌, ◌<◌, ◌≤◌, ℕ, Bool, List, [], length, MatchBool, None, false, true}
 use Rattle.alm_types.specs.declared.action.Action.{Action}
 use Rattle.alm_disk.specs.Failures.{HasFailed}
 use Rattle.alm_disk.specs.declared.disk.Disk
 use Rattle.alm_model.specs.Rules.{admits_all}
 use Rattle.alm_model.specs.Step.{run}
-use Rattle.alm_store.specs.Advancing.{IsCalls, IsCheckpointing}
+use Rattle.alm_store.specs.Advancing.{CheckpointIsNotOpened, CheckpointIsOpened, IsCalls, IsCheckpointing}
 use Rattle.alm_store.specs.Calls.{CallDone, CallFailed, IsCall}
 use Rattle.alm_store.specs.Pace.{least_segment, most}
 use Rattle.alm_store.specs.Pacing.{KeepsPace, SamePace}
@@ -98,6 +98,20 @@ module _ {S D : Type 0} (g : Ghosts S D) where
   pub record OpensBehind (result : Advance) (old new : S) : Type 0 where
     pub opens : result ≡ Committed → ¬ (g.exhausted new) → (g.state new).segment < 2 * (g.state new).used → IsCheckpointing (g.state new).phase
     pub only : result ≡ Committed → (g.state old).going ≡ None → 2 * (g.state new).used ≤ (g.state new).segment → (g.state new).going ≡ None
+
+  -- between two batches a checkpoint was opened if no work was under way, without a device call, and what is stored stays as it was.
+  -- If none was opened only the count of a checkpoint's bytes may be another
+  pub record OpensBetween (result : Bool) (old new : S) : Type 0 where
+    pub disk : g.disk new ≡ g.disk old
+    pub exhausted : g.exhausted old ↔ g.exhausted new
+    pub newest : g.newest old → g.newest new
+    pub takes : (actions : List Action) → g.takes old actions → g.takes new actions
+    pub stored : (g.state new).stored ≡ (g.state old).stored
+    pub used : (g.state new).used ≡ (g.state old).used
+    pub segment : (g.state new).segment ≡ (g.state old).segment
+    pub working : (g.state old).phase ≢ Idle → (result ≡ false) × (new ≡ old)
+    pub opened : MatchBool result (CheckpointIsOpened (g.state old) (g.state new)) (CheckpointIsNotOpened (g.state old) (g.state new))
+    pub pace : KeepsPace (g.state old) → KeepsPace (g.state new)
 
   -- the store keeps its pace, and so takes every batch, as long as epochs are left
   pub record StaysInPace (result : Advance) (old new : S) : Type 0 where

@@ -9,7 +9,7 @@ ghost use Rattle.alm_store.specs.Advancing.{CommitIsNotBegun, IsCheckpointing};
 ghost use Rattle.alm_store.specs.Pacing.{KeepsPace, SamePace};
 ghost use Rattle.alm_flush.specs.Advances.{Behind, GoesOn, IsNextOne, IsSure};
 ghost use Rattle.alm_flush.specs.Pacing.{NearPace};
-ghost use Rattle.alm_flush.specs.Steps.{BeginsInOrder, BeginsInPace, CallsDevice, CommitsOnly, EndsWithin, HasCauses, IsEither, IsInOrder, IsUntouched, KeepsPhase, NearsPace, OpensBehind, StartsInPace, StaysInPace, StoresBatch};
+ghost use Rattle.alm_flush.specs.Steps.{BeginsInOrder, BeginsInPace, CallsDevice, CommitsOnly, EndsWithin, HasCauses, IsEither, IsInOrder, IsUntouched, KeepsPhase, NearsPace, OpensBehind, OpensBetween, StartsInPace, StaysInPace, StoresBatch};
 
 use crate::advance::Advance;
 use alm_store::{Phase, Progress, Store};
@@ -177,6 +177,19 @@ fn open_checkpoint<K: Store>(store: &mut K)
             Err(_) => {}
         }
     }
+}
+
+/// Opens a checkpoint if the store has no work under way; not in the last epoch. Whether it did: no device call.
+pub fn open_between<K: Store>(store: &mut K) -> bool
+    ensures opens { OpensBetween K.Store result store.old store.new }
+    ensures sure { (K.state store.old).phase ≡ Phase.Idle → ¬ (K.exhausted store.old) →
+        IsTrue result }
+{
+    if store.phase() != Phase::Idle {
+        return false;
+    }
+    store.mark();
+    store.begin_checkpoint().is_ok()
 }
 
 // At most one device call for a batch with actions.

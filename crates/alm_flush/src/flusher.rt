@@ -15,7 +15,7 @@ ghost use Rattle.alm_flush.specs.Replies.{replies_in, replies_to};
 ghost use Rattle.alm_types.specs.Sizes.{most_out};
 
 use crate::advance::Advance;
-use crate::commit::{advance_by, few, go_on};
+use crate::commit::{advance_by, few, go_on, open_between};
 use crate::fetch::Fetch;
 use crate::held::Held;
 use crate::publishes::Publishes;
@@ -110,7 +110,7 @@ impl<K: Store, T: Told + Drop, B: Board<Told = T>> Flusher<K, T, B> {
     ghost use Rattle.alm_rings.specs.declared.outbox.Outbox.{Outbox};
     ghost use Rattle.alm_flush.specs.Flushes.{FetchAnswers, AdvanceAnswers, PublishAnswers, ReleaseAnswers, GivesBack, AreAllReleased, IsFree, IsGivenUp, IsNext};
     ghost use Rattle.alm_flush.specs.HeldBatch.{next_entry_of, ready_of, to_commit};
-    ghost use Rattle.alm_flush.specs.Steps.{CallsDevice, EndsWithin, HasCauses, IsAsBefore, IsInOrder, OpensBehind, StaysInPace};
+    ghost use Rattle.alm_flush.specs.Steps.{CallsDevice, EndsWithin, HasCauses, IsAsBefore, IsInOrder, OpensBehind, OpensBetween, StaysInPace};
     ghost use Rattle.alm_rings.specs.declared.receipt.Receipt.{Receipt};
 
     /// No batch is held at first. The store has no work begun, and the board shows the plant that is stored.
@@ -247,6 +247,25 @@ impl<K: Store, T: Told + Drop, B: Board<Told = T>> Flusher<K, T, B> {
                 self.held = held;
                 go_on(&mut self.store)
             }
+        }
+    }
+
+    /// Opens a checkpoint between two batches: it writes the plant of this store into the other half, which then stands in place of
+    /// one that was found damaged. It is opened if no batch is held, no work is under way and epochs are left. Whether it was: no
+    /// device call.
+    pub fn heal(&mut self) -> bool
+        ensures same { (self.new.board ≡ self.old.board) × (self.new.outboxes ≡ self.old.outboxes) ×
+            (self.new.before.value ≡ self.old.before.value) × (self.new.fetch ≡ self.old.fetch) ×
+            (self.new.held ≡ self.old.held) }
+        ensures opens { OpensBetween K.Store result self.old.store self.new.store }
+        // No batch waits for it.
+        ensures between { IsTrue result → self.old.held ≡ Held.Nothing }
+        ensures sure { self.old.held ≡ Held.Nothing → (K.state self.old.store).phase ≡ Phase.Idle →
+            ¬ (K.exhausted self.old.store) → IsTrue result }
+    {
+        match self.held {
+            Held::Nothing => open_between(&mut self.store),
+            _ => false,
         }
     }
 

@@ -20,7 +20,7 @@
 //! A batch without actions is committed without a device call. If more than half of the segment is used after a commit a
 //! checkpoint is opened. It goes out in pieces of at most 65,536 bytes: one before each commit of a batch that the store takes,
 //! and without a batch one after the other. For a batch that isn't taken, a checkpoint is opened unless one is open already, and
-//! the batch is committed after it.
+//! the batch is committed after it. [`Flusher::heal`] opens one between two batches.
 //!
 //! What is used above: a verdict is released only if the stored and the published list both hold its number. The published list
 //! is always a prefix of the stored one. The receipts released to a slot have, in order, the verdicts of that slot's entries, as
@@ -38,6 +38,7 @@
 //! |---|---|
 //! | `fetch` | Got; Empty only if the ring knew no batch; Held while one is held |
 //! | `advance` | at most one device call: More, Committed, Failed, or Nothing without a batch to commit and an open checkpoint |
+//! | `heal` | whether a checkpoint was opened: only if no batch is held, the store has no work under way, and epochs are left |
 //! | `publish` | Published; OutOfMemory, with the shown list as before; NotYet without a committed batch |
 //! | `release` | Released to a slot; Full if that slot's ring knew no place, and the reply stays; Nothing if none is left |
 //! | `give_back` | whether the batch was returned, all its replies released |
@@ -53,8 +54,8 @@
 //!   fails without a call (by `Flusher::new`, `advance`, `into_keeper`)
 //! - a commit waits for at most one piece of a checkpoint, 65,536 bytes, if the segment took its batch as it was fetched
 //!   (by `fetch`, `advance`, `give_back`)
-//! - after a commit a checkpoint is open if more than half of the segment is used (but in the last epoch), and none is
-//!   opened otherwise (by `advance`)
+//! - after a commit a checkpoint is open if more than half of the segment is used (but in the last epoch). None is opened
+//!   otherwise, except between two batches where one is asked for (by `advance`, `heal`)
 //! - opened with at most half of a segment of 452,651 bytes or more used, in a half with all actions, it takes every batch
 //!   while epochs are left (by `Flusher::new`, `fetch`)
 #![tactic(auto)]

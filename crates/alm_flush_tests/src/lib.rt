@@ -9,6 +9,8 @@
 #[cfg(test)]
 mod course;
 #[cfg(test)]
+mod healing;
+#[cfg(test)]
 mod migration;
 pub mod opened;
 pub mod parts;

@@ -33,6 +33,7 @@ use alm_shared::{Durable, NewRun, SharedBoard, SharedLook};
 use alm_store::Store;
 use alm_threads::{Parts, RunEnd, RunReport, Storage, WatchedLook, parts_of, run_with_bells};
 use alm_types::{SLOTS, Slot};
+use alm_wake::Healing;
 use std::alloc::{AllocError, Global};
 use std::fs::{File, Files};
 use std::io;
@@ -132,7 +133,7 @@ fn run_parts<
     ensures refused { IfErr result (λ back. back ≡ parts.entry.middle.flusher.store) }
 {
     let SlotPorts { ports, bells } = ports;
-    match run_with_bells(rt, alloc, parts, &Free, bells, ports) {
+    match run_with_bells(rt, alloc, parts, &Free, &Healing::new(), bells, ports) {
         Ok(run) => Ok(run),
         Err(started) => Err(started.store),
     }

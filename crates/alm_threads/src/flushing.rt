@@ -9,7 +9,7 @@ use alm_moments::{Moments, RunId};
 use alm_rings::Told;
 use alm_store::Store;
 use alm_types::MOST_ENTRIES;
-use alm_wake::{Bell, Flags, FlusherPace};
+use alm_wake::{Bell, Flags, FlusherPace, Healing};
 use std::sync::Wait;
 
 // What a pass found.
@@ -108,8 +108,23 @@ fn step<
     answer(flusher, pace)
 }
 
+// Notes how many actions are stored, and opens the checkpoint that is asked for, if it can be opened now.
+fn heal<K: Store, T: Told + Drop, B: Board<Told = T>, J: RunId>(
+    flusher: &mut RecordedFlusher<K, T, B, J>,
+    healing: &Healing,
+)
+    ensures kept { KeepsFlusher flusher.old flusher.new }
+    ensures honest { K.Device.honest (K.disk flusher.old.flusher.store) ↔
+        K.Device.honest (K.disk flusher.new.flusher.store) }
+{
+    healing.note(flusher.keeper().count());
+    if healing.is_asked() && flusher.heal() {
+        healing.begin();
+    }
+}
+
 /// Commits, publishes and releases until no batch will be sealed and none is left, or there is a cause to stop. The threads that
-/// wait for what it does are woken.
+/// wait for what it does are woken. A checkpoint that is asked for is opened between two batches.
 pub fn flush<
     K: Store,
     T: Told + Drop,
@@ -117,7 +132,7 @@ pub fn flush<
     J: RunId,
     E: Bell + Drop,
     R: Wait,
->(rt: &R, flags: &Flags<E>, flusher: &mut RecordedFlusher<K, T, B, J>)
+>(rt: &R, flags: &Flags<E>, healing: &Healing, flusher: &mut RecordedFlusher<K, T, B, J>)
     ensures kept { KeepsFlusher flusher.old flusher.new }
     ensures honest { K.Device.honest (K.disk flusher.old.flusher.store) ↔
         K.Device.honest (K.disk flusher.new.flusher.store) }
@@ -127,6 +142,7 @@ pub fn flush<
         if pace.is_stopped() {
             break;
         }
+        heal(flusher, healing);
         let last = pace.is_last();
         match step(rt, flusher, &mut pace) {
             Pass::Work => {

@@ -10,7 +10,7 @@
 //! |---|---|
 //! | [`parts_of`] | rings, board, looks and the sequencer's plant for some slots, over an idle store |
 //! | [`run_threads`] | a thread for each source and one for the sequencer, the flusher in the caller's; joins them and closes the slots |
-//! | [`run_with_bells`] | the same, with a bell of the caller's own for each slot, such as one that wakes a poll |
+//! | [`run_with_bells`] | the same, with a bell of the caller's own for each slot, such as one that wakes a poll, and a hint by which it asks for a checkpoint |
 //!
 //! | thread | runs | ends |
 //! |---|---|---|

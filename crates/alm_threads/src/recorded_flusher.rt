@@ -88,13 +88,13 @@ pub struct RecordedFlusher<K: Store, T: Told + Drop, B: Board<Told = T>, J: RunI
 }
 
 impl<K: Store, T: Told + Drop, B: Board<Told = T>, J: RunId> RecordedFlusher<K, T, B, J> {
-    ghost use Rattle.std.specs.Prelude.{◌≡◌, ◌↔◌, ◌+◌, ◌-◌, ◌^◌, ◌<◌, ◌≤◌, ◌++◌, [], ℕ, List, slice_get, true, false, IfSome, MatchBool, Some, None};
+    ghost use Rattle.std.specs.Prelude.{◌≡◌, ◌↔◌, ◌+◌, ◌-◌, ◌^◌, ◌<◌, ◌≤◌, ◌++◌, [], ℕ, List, slice_get, true, false, IfSome, IsTrue, MatchBool, Some, None};
     ghost use Rattle.alm_rings.specs.Batches.{AreBatchEnds, SameFetchEnds, SameSealEnds, coming_in, fetched_of, given_of, places_in, sealed_of};
     ghost use Rattle.alm_flush.specs.declared.held.Held.TheVariants.{Nothing};
     ghost use Rattle.alm_rings.specs.Placed.{AreApart, SameOutboxAt, outbox_at, released_by};
     ghost use Rattle.alm_flush.specs.Flushes.{AdvanceAnswers, AreAllReleased, FetchAnswers, GivesBack, PublishAnswers, ReleaseAnswers};
     ghost use Rattle.alm_flush.specs.HeldBatch.{next_entry_of, to_commit};
-    ghost use Rattle.alm_flush.specs.Steps.{CallsDevice};
+    ghost use Rattle.alm_flush.specs.Steps.{CallsDevice, OpensBetween};
     ghost use Rattle.alm_threads.specs.Causes.{StopsFor, most_refusals};
     ghost use Rattle.alm_rings.specs.declared.receipt.Receipt.{Receipt};
 
@@ -229,6 +229,22 @@ impl<K: Store, T: Told + Drop, B: Board<Told = T>, J: RunId> RecordedFlusher<K, 
         self.recorder.record(&now);
         self.failed = has_failed(advanced);
         advanced
+    }
+
+    /// Opens a checkpoint between two batches, for a device that was found damaged: whether it did. No device call.
+    pub fn heal(&mut self) -> bool
+        ensures same { (self.new.flusher.board ≡ self.old.flusher.board) ×
+            (self.new.flusher.outboxes ≡ self.old.flusher.outboxes) ×
+            (self.new.flusher.fetch ≡ self.old.flusher.fetch) ×
+            (self.new.flusher.held ≡ self.old.flusher.held) × (self.new.first ≡ self.old.first) ×
+            (self.new.failed ≡ self.old.failed) × (self.new.refused ≡ self.old.refused) }
+        ensures opens { OpensBetween K.Store result self.old.flusher.store self.new.flusher.store }
+        ensures between { IsTrue result → self.old.flusher.held ≡ Nothing }
+        ensures sure { self.old.flusher.held ≡ Nothing →
+            (K.state self.old.flusher.store).phase ≡ Phase.Idle →
+            ¬ (K.exhausted self.old.flusher.store) → IsTrue result }
+    {
+        self.flusher.heal()
     }
 
     // Lets all that is stored be reported: if that is more than before, by a moment.

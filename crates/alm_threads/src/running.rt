@@ -30,7 +30,7 @@ use alm_moments::{Moments, RunId};
 use alm_rings::{SlotReport, Told};
 use alm_store::Store;
 use alm_types::Slot;
-use alm_wake::{Bell, Bells, Flags, ThreadBell};
+use alm_wake::{Bell, Bells, Flags, Healing, ThreadBell};
 use std::alloc::{AllocError, Global};
 use std::sync::Wait;
 use std::thread;
@@ -55,6 +55,7 @@ fn run_all<
     rt: &'s R,
     alloc: Global,
     flags: &'s Flags<E>,
+    healing: &'s Healing,
     slots: &'s Vec<Slot>,
     hold: &'s H,
     slot_parts: Vec<SlotParts<T, L, S>>,
@@ -112,7 +113,7 @@ where
         }
     };
     let mut flusher = RecordedFlusher::new(store, board, outboxes, fetch, recorder);
-    flush(rt, flags, &mut flusher);
+    flush(rt, flags, healing, &mut flusher);
     let Joined { consoles, sources } = join_all(rt, sources, room);
     Ok(JoinedEnds {
         ends: end_run(rt, consoles, sequencer.join(rt), flusher),
@@ -136,6 +137,7 @@ fn in_scope<
     rt: &'s R,
     alloc: Global,
     flags: &'s Flags<E>,
+    healing: &'s Healing,
     slots: &'s Vec<Slot>,
     hold: &'s H,
     slot_parts: Vec<SlotParts<T, L, S>>,
@@ -187,6 +189,7 @@ fn in_scope<
                 rt,
                 alloc,
                 flags,
+                healing,
                 slots,
                 hold,
                 slot_parts,
@@ -235,7 +238,7 @@ fn room_for<T: Told + Drop, L: Look<Told = T> + Drop, S: Source<T, L> + Drop>(
 ///
 /// It ends when all sources have ended and no work is left, or when the storage is stopped; no further turns are taken after
 /// that. Once the threads are joined it finishes what they left: so a run isn't whole only for its cause. If out of memory or no
-/// thread can be made, the store is returned as it was, and the other parts are lost.
+/// thread can be made, the store is returned as it was, and the other parts are lost. While it runs, a checkpoint may be asked for.
 pub fn run_with_bells<
     K: Store,
     T: Told + Drop + Send,
@@ -251,6 +254,7 @@ pub fn run_with_bells<
     alloc: Global,
     parts: Parts<T, L, B, K, J>,
     hold: &H,
+    healing: &Healing,
     bells: Vec<E>,
     sources: Vec<S>,
 ) -> Result<RunEnd<K, T, J, S>, NotStarted<K>>
@@ -286,7 +290,7 @@ pub fn run_with_bells<
     let slot_parts = slot_parts_of(slot_parts, consoles, looks, sources);
     let flags = Flags::new(Bells::new(slots.as_slice(), bells));
     let JoinedEnds { ends, sources } = in_scope(
-        rt, alloc, &flags, &slots, hold, slot_parts, joined, board, middle,
+        rt, alloc, &flags, healing, &slots, hold, slot_parts, joined, board, middle,
     )?;
     Ok(RunEnd {
         report: report_of(ends, reports),
@@ -333,7 +337,8 @@ pub fn run_threads<
             return Err(StartFault::OutOfMemory);
         }
     }
-    match run_with_bells(rt, alloc, parts, hold, bells, sources) {
+    let healing = Healing::new();
+    match run_with_bells(rt, alloc, parts, hold, &healing, bells, sources) {
         Ok(end) => Ok(end),
         Err(NotStarted { fault, store: _ }) => Err(fault),
     }

@@ -25,6 +25,8 @@ pub mod drawn;
 mod faults;
 pub mod folds;
 pub mod gate;
+#[cfg(test)]
+mod healing;
 pub mod looker;
 #[cfg(test)]
 mod looks;

@@ -16,7 +16,7 @@ use alm_rings::{SealEnds, SlotEnds, batches_beside, open_batches, open_slots};
 use alm_store::{Phase, Store};
 use alm_threads::{Closes, RecordedFlusher, close_flusher, flush};
 use alm_types::{Action, Batch, Entry, Moment, Slot, Verdict, Want};
-use alm_wake::{Bells, Flags, ThreadBell};
+use alm_wake::{Bells, Flags, Healing, ThreadBell};
 use std::alloc::{AllocError, Global};
 use std::marker::Brand;
 use std::sync::Wait;
@@ -85,14 +85,15 @@ pub fn seals(ends: &mut SealEnds, clock: Slot, size: u16) -> bool {
 }
 
 /// What a run of the flusher leaves if its board refuses a number of publishes of one batch. It is the number that its
-/// slot receives, if any, and whether all threads are to stop.
+/// slot receives, if any, whether all threads are to stop, and the store.
 fn told_behind<J: RunId, K: Store, R: Wait>(
     rt: &R,
     alloc: Global,
     new: NewHistory<RecordedMoment>,
     store: K,
     refusals: u64,
-) -> Option<(Option<u64>, bool)>
+    healing: &Healing,
+) -> Option<(Option<u64>, bool, K)>
     requires book { new.seen.book ≡ J.moments }
     requires named { IsNamedAfter J.RunId K.Store K.Device.Disk store }
     requires idle { (K.state store).phase ≡ Phase.Idle }
@@ -124,33 +125,42 @@ fn told_behind<J: RunId, K: Store, R: Wait>(
         outboxes,
     } = slot_ends;
     let mut flusher = RecordedFlusher::new(store, board, outboxes, fetch, recorder);
-    flush(rt, &flags, &mut flusher);
-    drop(close_flusher(rt, flusher));
+    flush(rt, &flags, healing, &mut flusher);
+    let (parts, _moments) = close_flusher(rt, flusher);
     let told = match consoles.get_mut(17) {
         Some(console) => console.receive().map(|receipt| receipt.number),
         None => None,
     };
-    Some((told, flags.is_stopped()))
+    Some((told, flags.is_stopped(), parts.store))
 }
 
 /// The same over a new device.
 fn told_on_new<R: Wait>(rt: &R, alloc: Global, refusals: u64) -> Option<(Option<u64>, bool)> {
     let table = worked_table(alloc).ok()?;
     let disk = formatted(alloc, &table)?;
-    told_on::<Keeper<MemDisk>, R>(rt, alloc, disk, refusals)
+    let (told, stopped, store) = told_on::<Keeper<MemDisk>, R>(
+        rt,
+        alloc,
+        disk,
+        refusals,
+        &Healing::new(),
+    )?;
+    drop(store);
+    Some((told, stopped))
 }
 
-/// The same over a device.
-fn told_on<K: Store, R: Wait>(
+/// The same over a device, and the store.
+pub fn told_on<K: Store, R: Wait>(
     rt: &R,
     alloc: Global,
     disk: K::Device,
     refusals: u64,
-) -> Option<(Option<u64>, bool)> {
+    healing: &Healing,
+) -> Option<(Option<u64>, bool, K)> {
     match K::open(alloc, disk) {
         Ok(store) => {
             let new = NewHistory::new();
-            told_behind::<Brand, K, R>(rt, alloc, new, store, refusals)
+            told_behind::<Brand, K, R>(rt, alloc, new, store, refusals, healing)
         }
         Err(_) => None,
     }

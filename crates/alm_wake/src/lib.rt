@@ -13,7 +13,7 @@
 //! | the flusher's | a [`FlusherPace`] | no sealed batch is there, or a console has no room for a receipt |
 //!
 //! [`Flags`] are what they share: hints, each read before the step that it bounds. A lost wake-up costs 100 milliseconds, and a
-//! second at a slot: then each thread checks by itself. docs/develop/WAKING.md has the states of the two threads, and who reads and writes
+//! second at a slot: then each thread checks by itself. A [`Healing`] is such a hint from outside of the run. docs/develop/WAKING.md has the states of the two threads, and who reads and writes
 //! each atomic. The numbers stand in `bounds`, but for a slot's second, which its port has (alm_serve).
 //!
 //! Not covered: how long anything takes, since no contract speaks of time that passes. Nor what an atomic has, so that a bell is rung:
@@ -40,6 +40,7 @@ mod commit_time;
 mod flags;
 mod flusher_pace;
 mod gathering;
+mod healing;
 mod pause;
 mod sealing;
 mod sequencer_pace;
@@ -52,6 +53,7 @@ pub use bells::Bells;
 pub use flags::Flags;
 pub use flusher_pace::FlusherPace;
 pub use gathering::Gathering;
+pub use healing::Healing;
 pub use pause::Pause;
 pub use sealing::Sealing;
 pub use sequencer_pace::SequencerPace;
