@@ -61,6 +61,7 @@ mod place;
 mod placed_disk;
 mod record;
 mod recorded_file;
+mod standing;
 mod start;
 mod streams;
 mod successor;
