@@ -28,17 +28,15 @@ fn fetched(clock: Slot, number: u64) -> Result<[(Call, Outcome); 4], Fail> {
 
 /// It is committed, and none is begun before it is given back.
 fn committed(clock: Slot) -> [(Call, Outcome); 11] {
-    let more = (Call::Advance, Outcome::Advanced(Advance::More));
-    let waits = (Call::Heal, Outcome::Healed(false));
     [
-        waits,
-        more,
-        more,
-        more,
+        (Call::Heal, Outcome::Healed(false)),
+        (Call::Advance, Outcome::Advanced(Advance::More)),
+        (Call::Advance, Outcome::Advanced(Advance::More)),
+        (Call::Advance, Outcome::Advanced(Advance::More)),
         (Call::Advance, Outcome::Advanced(Advance::Committed)),
-        waits,
+        (Call::Heal, Outcome::Healed(false)),
         (Call::Publish, Outcome::Published(Publishes::Published)),
-        waits,
+        (Call::Heal, Outcome::Healed(false)),
         (Call::Release, Outcome::Released(Release::Released(clock))),
         (Call::GiveBack, Outcome::GaveBack(true)),
         (Call::Heal, Outcome::Healed(true)),
