@@ -120,13 +120,12 @@ def try_cut(courses: Courses) -> None:
     device = courses.made_at(0, FEW)
     counts = try_gate(courses, device, device.frames(True)[-1][0], CLOSED)
     check(counts == (FEW - 1, {FEW}), "of a commit that was cut so many actions count, and then:", counts)
-    # A checkpoint was cut before its gate, and half 0 went on with two actions more.
-    turned, frames = courses.made_at(1, 1), device.frames(True)
-    device = courses.made_at(0, FEW)
+    # A checkpoint was cut before its gate, and half 0 goes on.
+    turned, device = courses.made_at(1, 1), courses.made_at(0, FEW)
     device.bytes[device.half(1) :] = turned.bytes[device.half(1) :]
     device.bytes[device.journal(1)] = CLOSED
     counts = try_gate(courses, device, device.half(1), CLOSED)
-    check(counts == (len(frames), {len(frames)}), "beside a checkpoint that was cut so many actions count:", counts)
+    check(counts == (FEW, {FEW}), "beside a checkpoint that was cut so many actions count:", counts)
     # The power failed before the half that stood was shut: both have the same plant.
     device = courses.made_at(1, 1)
     device.bytes[device.journal(1)], device.bytes[device.half(0)] = CLOSED, OPEN

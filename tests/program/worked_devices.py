@@ -14,7 +14,7 @@ from lib.summed_reader import found
 
 # Bytes at places.
 Change = tuple[tuple[int, bytes], ...]
-SEED, LINES, JOINED = 5, 200, 3
+SEED, LINES, JOINED = 5, 400, 3
 # So many frames stand in the first device, and behind the turn.
 FEW, BEHIND = 9, 8
 # Each part of a device, as it is counted.
