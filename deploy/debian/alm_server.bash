@@ -6,10 +6,10 @@ _alm_server() {
         mapfile -t COMPREPLY < <(compgen -W "desk export format serve show upgrade --help --version" -- "$cur")
     elif [ "$prev" = --sockets ]; then
         mapfile -t COMPREPLY < <(compgen -d -- "$cur")
-    elif [ "$prev" = --port ] || [ "$prev" = --conns ] || [ "$prev" = --patience ]; then
+    elif [ "$prev" = --port ] || [ "$prev" = --conns ] || [ "$prev" = --patience ] || [ "$prev" = --scrub ]; then
         :
     elif [ "${COMP_WORDS[1]}" = serve ] && [ "$COMP_CWORD" -gt 2 ]; then
-        mapfile -t COMPREPLY < <(compgen -W "--port --sockets --conns --patience" -- "$cur")
+        mapfile -t COMPREPLY < <(compgen -W "--port --sockets --conns --patience --scrub" -- "$cur")
     elif [ "$prev" = --version ]; then
         mapfile -t COMPREPLY < <(compgen -W "02 03" -- "$cur")
     elif [ "${COMP_WORDS[1]}" = upgrade ] && [ "$COMP_CWORD" -gt 2 ]; then

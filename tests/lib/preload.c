@@ -23,7 +23,7 @@
  *
  *     eio, enospc   the call does nothing and fails so (of memory or a thread: it is refused)
  *     disk          while the call runs the file ALM_DISK exists, which makes the disk below fail (badfs.c)
- *     from          this request for memory and all behind it are refused
+ *     from          this request for memory and all behind it are refused; this read and all behind it fail
  *     held          the call waits while the file ALM_MET exists, then goes on
  *     short         a write or read of half the bytes, where it has more than one
  *     kill          the process is killed before the call
@@ -289,8 +289,8 @@ bool fails(void) {
         while (met && !syscall(SYS_access, met, F_OK)) usleep(10000);
         return false;
     }
-    if (is_kind("eio") || is_kind("enospc")) {
-        errno = kind[1] == 'i' ? EIO : ENOSPC;
+    if (is_kind("eio") || is_kind("enospc") || is_kind("from")) {
+        errno = is_kind("enospc") ? ENOSPC : EIO;
         return true;
     }
     if (cuts_power()) fail_power();

@@ -28,22 +28,26 @@ module _ {A : Type 0} where
   unread None fault e = (cc, refl)
   unread (Some m) fault e = absurd cc
 
--- what a server is asked, if all its words are read, and if its patience or its connections aren't
-pub served : (d c s : Option Text) (p : Option At) (device : Text) (at : At) (conns : ℕ) (patience : Option ℕ) → d ≡ Some device → p ≡ Some at
-    → conns_in c ≡ Some conns → patience_in s ≡ Some patience → serve_by d p c s ≡ Some (serve device at conns patience)
-served d c s p device at conns patience d_is p_is conns_is patience_is = rw (d_is, p_is, conns_is, patience_is) refl
+-- what a server is asked, if all its words are read, and if the time between its scrubs, its patience or its connections aren't
+pub served : (d c s t : Option Text) (p : Option At) (device : Text) (at : At) (conns : ℕ) (patience : Option ℕ) (scrub : ℕ) → d ≡ Some device → p ≡ Some at
+    → conns_in c ≡ Some conns → patience_in s ≡ Some patience → conns_in t ≡ Some scrub → serve_by d p c s t ≡ Some (serve device at conns patience scrub)
+served d c s t p device at conns patience scrub d_is p_is conns_is patience_is scrub_is = rw (d_is, p_is, conns_is, patience_is, scrub_is) refl
 
-pub not_patient : (d c s : Option Text) (p : Option At) (device : Text) (at : At) (conns : ℕ) → d ≡ Some device → p ≡ Some at
-    → conns_in c ≡ Some conns → patience_in s ≡ None → serve_by d p c s ≡ None
-not_patient d c s p device at conns d_is p_is conns_is patience_is = rw (d_is, p_is, conns_is, patience_is) refl
+pub not_scrubbed : (d c s t : Option Text) (p : Option At) (device : Text) (at : At) (conns : ℕ) (patience : Option ℕ) → d ≡ Some device → p ≡ Some at
+    → conns_in c ≡ Some conns → patience_in s ≡ Some patience → conns_in t ≡ None → serve_by d p c s t ≡ None
+not_scrubbed d c s t p device at conns patience d_is p_is conns_is patience_is scrub_is = rw (d_is, p_is, conns_is, patience_is, scrub_is) refl
 
-pub not_served : (d c s : Option Text) (p : Option At) (device : Text) (at : At) → d ≡ Some device → p ≡ Some at
-    → conns_in c ≡ None → serve_by d p c s ≡ None
-not_served d c s p device at d_is p_is conns_is = rw (d_is, p_is, conns_is) refl
+pub not_patient : (d c s t : Option Text) (p : Option At) (device : Text) (at : At) (conns : ℕ) → d ≡ Some device → p ≡ Some at
+    → conns_in c ≡ Some conns → patience_in s ≡ None → serve_by d p c s t ≡ None
+not_patient d c s t p device at conns d_is p_is conns_is patience_is = rw (d_is, p_is, conns_is, patience_is) refl
+
+pub not_served : (d c s t : Option Text) (p : Option At) (device : Text) (at : At) → d ≡ Some device → p ≡ Some at
+    → conns_in c ≡ None → serve_by d p c s t ≡ None
+not_served d c s t p device at d_is p_is conns_is = rw (d_is, p_is, conns_is) refl
 
 -- .. and if its endpoints aren't
-pub not_placed : (d c s : Option Text) (p : Option At) (device : Text) → d ≡ Some device → p ≡ None → serve_by d p c s ≡ None
-not_placed d c s p device d_is p_is = rw (d_is, p_is) refl
+pub not_placed : (d c s t : Option Text) (p : Option At) (device : Text) → d ≡ Some device → p ≡ None → serve_by d p c s t ≡ None
+not_placed d c s t p device d_is p_is = rw (d_is, p_is) refl
 
 -- the endpoints, by words that were found
 pub placed : (p p' f f' : Option Text) (at : Option At) → p ≡ p' → f ≡ f' → endpoints_by p f ≡ at → endpoints_by p' f' ≡ at

@@ -39,12 +39,13 @@ show = with_rule (new_app (codes "show")) (wanted (codes "device"))
 abbrev pub export : App
 export = with_rule (new_app (codes "export")) (wanted (codes "device"))
 
--- serve DEVICE [--port P] [--sockets FOLDER] [--conns N] [--patience SECONDS], of which a server is asked port or folder
+-- serve DEVICE [--port P] [--sockets FOLDER] [--conns N] [--patience SECONDS] [--scrub SECONDS], of which a server is asked port or
+-- folder
 abbrev pub serve : App
 serve =
-    with_rule (with_rule (with_rule (with_rule (with_rule (new_app (codes "serve")) (wanted (codes "device")))
+    with_rule (with_rule (with_rule (with_rule (with_rule (with_rule (new_app (codes "serve")) (wanted (codes "device")))
     (named (optional (codes "port")))) (named (optional (codes "sockets")))) (named (optional (codes "conns"))))
-    (named (optional (codes "patience")))
+    (named (optional (codes "patience")))) (named (optional (codes "scrub")))
 
 -- a program that is asked for one of its commands
 abbrev pub program : App

@@ -29,4 +29,4 @@ IsJob (Format device table version) = ⊤
 IsJob (Upgrade device version) = ⊤
 IsJob (Show device) = ⊤
 IsJob (Export device) = ⊤
-IsJob (Serve device endpoints conns patience) = AreEndpoints endpoints
+IsJob (Serve device endpoints conns patience scrub) = AreEndpoints endpoints

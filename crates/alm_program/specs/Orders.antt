@@ -34,7 +34,7 @@ pub data JobOrder : Type 0 where
   upgrade : Text → Version → JobOrder
   show : Text → JobOrder
   export : Text → JobOrder
-  serve : Text → At → ℕ → Option ℕ → JobOrder
+  serve : Text → At → ℕ → Option ℕ → ℕ → JobOrder
 
 -- a job's own order
 abbrev pub order_of : Job → JobOrder
@@ -44,7 +44,7 @@ order_of (job.Format device table version) = format device.now table.now version
 order_of (job.Upgrade device version) = upgrade device.now version
 order_of (job.Show device) = show device.now
 order_of (job.Export device) = export device.now
-order_of (job.Serve device endpoints conns patience) = serve device.now (endpoints_of endpoints) conns patience
+order_of (job.Serve device endpoints conns patience scrub) = serve device.now (endpoints_of endpoints) conns patience scrub
 
 -- the port of the first slot, if the 17 after it are ports as well
 abbrev pub port_in : Text → Option ℕ
@@ -59,7 +59,7 @@ endpoints_by None (Some folder) = Some (sockets folder)
 endpoints_by None None = None
 endpoints_by (Some digits) (Some folder) = None
 
--- the number of connections, 0 if it is missing
+-- the number of connections, or the seconds between two scrubs: 0 if it is missing
 abbrev pub conns_in : Option Text → Option ℕ
 conns_in None = Some 0
 conns_in (Some digits) = number (2 ^ 32) digits
@@ -95,15 +95,15 @@ upgrade_by device version = option_and_then (λ d. option_map (upgrade d) (versi
 abbrev pub upgrade_in : List Row → Option JobOrder
 upgrade_in rows = upgrade_by (device_in rows) (first_of (codes "version") rows)
 
-abbrev pub serve_by : Option Text → Option At → Option Text → Option Text → Option JobOrder
-serve_by device at conns patience =
-    option_and_then (λ d. option_and_then (λ p. option_and_then (λ n. option_map (serve d p n) (patience_in patience))
-    (conns_in conns)) at) device
+abbrev pub serve_by : Option Text → Option At → (conns patience scrub : Option Text) → Option JobOrder
+serve_by device at conns patience scrub =
+    option_and_then (λ d. option_and_then (λ p. option_and_then (λ n. option_and_then (λ s. option_map (serve d p n s)
+    (conns_in scrub)) (patience_in patience)) (conns_in conns)) at) device
 
 abbrev pub serve_in : List Row → Option JobOrder
 serve_in rows =
     serve_by (device_in rows) (endpoints_by (first_of (codes "port") rows) (first_of (codes "sockets") rows))
-    (first_of (codes "conns") rows) (first_of (codes "patience") rows)
+    (first_of (codes "conns") rows) (first_of (codes "patience") rows) (first_of (codes "scrub") rows)
 
 -- what a command is asked by its words
 abbrev pub order_at : Text → List Row → Option JobOrder

@@ -4,11 +4,13 @@ use Rattle.alm_program.specs.Orders.{JobOrder, desk, export, format, order_in, s
 use Rattle.alm_program.specs.OwnedEndpoints.{at_of}
 use Rattle.alm_program.specs.declared.serve_order.ServeOrder.{ServeOrder}
 
--- an order to serve is answered by exactly its device, endpoints, number of connections and patience, every other order by none
+-- an order to serve is answered by exactly its device, endpoints, number of connections, patience and time between scrubs, every
+-- other order by none
 abbrev pub IsOrderOf : JobOrder → Option ServeOrder → Type 0
-IsOrderOf (serve device at conns patience) (Some asked) =
+IsOrderOf (serve device at conns patience scrub) (Some asked) =
     (string_bytes asked.device ≡ device) × (at_of asked.endpoints ≡ at) × (asked.conns ≡ conns) × (asked.patience ≡ patience)
-IsOrderOf (serve device at conns patience) None = ⊥
+    × (asked.scrub ≡ scrub)
+IsOrderOf (serve device at conns patience scrub) None = ⊥
 IsOrderOf (tell about) asked = IsNone asked
 IsOrderOf (desk device) asked = IsNone asked
 IsOrderOf (format device table version) asked = IsNone asked

@@ -27,11 +27,12 @@ pub enum Job<'a> {
     /// Prints the table of a device's plant as a table file.
     Export(&'a str),
     /// Serves the slots there, `conns` connections in all; 0 is without end. If a device call takes longer than `patience`
-    /// seconds, no client is served until it ends.
+    /// seconds, no client is served until it ends. The device is scrubbed each time after `scrub` seconds; 0 is never.
     Serve {
         device: &'a str,
         endpoints: Endpoints<'a>,
         conns: u32,
         patience: Option<u32>,
+        scrub: u32,
     },
 }

@@ -18,10 +18,12 @@
 //! | `serve DEVICE --sockets FOLDER ..` | the same at 18 Unix sockets in a folder |
 //! | `.. --conns N` | for N connections in all |
 //! | `.. --patience SECONDS` | how long a device call may take while clients are served |
+//! | `.. --scrub SECONDS` | how much time lies between two scrubs of the device |
 //! | `--help`, `--version` | prints its words, its version |
 //!
-//! Options may come in any order. P (1024 to 65518), N (below 2^32) and SECONDS (1 to 86400) are decimal digits without a leading
-//! zero. Without `--conns` N is 0, without `--patience` there is no limit. Every other word is wrong usage.
+//! Options may come in any order. P (1024 to 65518), N and the seconds of a scrub (below 2^32) and those of a patience (1 to 86400) are
+//! decimal digits without a leading zero. Without `--conns` N is 0, without `--patience` there is no limit, and without `--scrub`, or
+//! with 0, there is no scrub. Every other word is wrong usage.
 //!
 //! | fault | status | its line on standard error |
 //! |---|---|---|
@@ -33,7 +35,7 @@
 //! | of memory, files, streams, ports or sockets | 3 | `fault memory`, `fault io`, `fault net` |
 //!
 //! What is used above: [`run_words`] returns the order to serve that some words ask for, with their device, endpoints,
-//! number of connections and patience. Not covered: that these are the process's own words. [`end_of`] ends with status 0 and no
+//! number of connections, patience and scrubs. Not covered: that these are the process's own words. [`end_of`] ends with status 0 and no
 //! line, or with the status and the line of the fault.
 //!
 //! Within: over any reader, writer and device, a desk, the print of a plant or of its table and a refused opening end by the fault
@@ -53,7 +55,7 @@
 //!   its bytes encode (by `run_upgrade`)
 //! - what is printed of a plant and of its table, or a prefix; `io` is reported exactly if the writer counted a failure (by
 //!   `print_plant`, `print_table`)
-//! - only a job to serve is answered by an order, with its device, place, connections and patience. Which words the
+//! - only a job to serve is answered by an order, with its device, place, connections, patience and scrubs. Which words the
 //!   process was given, no contract says (by `run_job`, `run_between`)
 //! - a device is refused by the cause of its opening; format takes the longest segment that fits, and refuses only if none
 //!   does (by `open_to_print`, `open_stack`, `layout_for`)

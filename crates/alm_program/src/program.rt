@@ -57,12 +57,13 @@ fn order_to(
     endpoints: Endpoints<'_>,
     conns: u32,
     patience: Option<u32>,
+    scrub: u32,
 ) -> Result<ServeOrder, Fault>
     requires { AreEndpoints endpoints }
     ensures { IfOk result
         (λ order. (string_bytes order.device ≡ device.now) ×
         (at_of order.endpoints ≡ endpoints_of endpoints.entry) × (order.conns ≡ conns) ×
-        (order.patience ≡ patience)) }
+        (order.patience ≡ patience) × (order.scrub ≡ scrub)) }
 {
     let device = String::from_str(alloc, device)?;
     let endpoints = owned(alloc, endpoints)?;
@@ -71,6 +72,7 @@ fn order_to(
         endpoints,
         conns,
         patience,
+        scrub,
     })
 }
 
@@ -101,8 +103,9 @@ fn run_job<'a, R: Input + Print + Files<File = File> + AllocGlobal>(
             endpoints,
             conns,
             patience,
+            scrub,
         } => {
-            let order = order_to(rt.alloc(), device, endpoints, conns, patience)?;
+            let order = order_to(rt.alloc(), device, endpoints, conns, patience, scrub)?;
             return Ok(Some(order));
         }
     }

@@ -83,7 +83,8 @@ fn serve_command<'a>(alloc: Global) -> Result<Command<'a>, AllocError>
     let above = with_option(alloc, above, "port")?;
     let above = with_option(alloc, above, "sockets")?;
     let above = with_option(alloc, above, "conns")?;
-    with_option(alloc, above, "patience")
+    let above = with_option(alloc, above, "patience")?;
+    with_option(alloc, above, "scrub")
 }
 
 /// A command with one more below it.
@@ -187,7 +188,7 @@ fn endpoints_of<'a>(
     }
 }
 
-/// The number of connections.
+/// The number of connections, or of the seconds between two scrubs.
 fn conns_of(digits: Option<&str>) -> Result<u32, WordsFault>
     ensures { result ≡ ok_or (conns_in (option_map (λ text. text.now) digits.entry)) Usage }
 {
@@ -221,6 +222,7 @@ fn serve_of<'a>(matches: &ArgMatches<'a>) -> Result<Job<'a>, WordsFault>
         endpoints: endpoints_of(matches.get_str("port"), matches.get_str("sockets"))?,
         conns: conns_of(matches.get_str("conns"))?,
         patience: patience_of(matches.get_str("patience"))?,
+        scrub: conns_of(matches.get_str("scrub"))?,
     })
 }
 

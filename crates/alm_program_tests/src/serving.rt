@@ -4,21 +4,23 @@ use crate::process::Process;
 use crate::script::Script;
 use alm_program::{Fault, OwnedEndpoints, ServeOrder, run_words};
 
-/// The endpoints, the connections and the patience that a server is asked for.
+/// The endpoints, the connections, the patience and the scrubs that a server is asked for.
 #[derive(Clone, Copy, Debug)]
 enum Wanted<'a> {
     Ports(u16, u32),
     Sockets(&'a str, u32),
     /// Ports, without an end.
     Patient(u16, u32),
+    /// The same without a patience, but with scrubs.
+    Scrubbed(u16, u32),
     /// The words are wrong.
     Nothing,
 }
 
-use Wanted::{Nothing, Patient, Ports, Sockets};
+use Wanted::{Nothing, Patient, Ports, Scrubbed, Sockets};
 
 /// Words, and how the device `d` is to be served with them.
-const ASKED: [(&[u8], Wanted<'static>); 24] = [
+const ASKED: [(&[u8], Wanted<'static>); 30] = [
     (b"serve\nd\n--port\n1024\n", Ports(1024, 0)),
     (b"serve\n--port\n65518\nd\n--conns\n7\n", Ports(65518, 7)),
     (
@@ -55,20 +57,31 @@ const ASKED: [(&[u8], Wanted<'static>); 24] = [
     (b"serve\nd\n--port\n5000\n--patience\n5s\n", Nothing),
     (b"serve\nd\n--sockets\nhere\n--patience\n", Nothing),
     (b"desk\nd\n--patience\n5\n", Nothing),
+    (b"serve\nd\n--port\n5000\n--scrub\n1\n", Scrubbed(5000, 1)),
+    (
+        b"serve\n--scrub=4294967295\nd\n--port\n5000\n",
+        Scrubbed(5000, 4294967295),
+    ),
+    (b"serve\nd\n--port\n5000\n--scrub\n0\n", Ports(5000, 0)),
+    (b"serve\nd\n--port\n5000\n--scrub\n4294967296\n", Nothing),
+    (b"serve\nd\n--port\n5000\n--scrub\n1h\n", Nothing),
+    (b"show\nd\n--scrub\n5\n", Nothing),
 ];
 
-/// Whether an order has these endpoints, connections and patience.
+/// Whether an order has these endpoints, connections, patience and scrubs.
 fn has(order: &ServeOrder, wanted: Wanted<'_>) -> bool {
-    let served = (&order.endpoints, order.conns, order.patience);
+    let served = (&order.endpoints, order.conns, order.patience, order.scrub);
     match (served, wanted) {
-        ((OwnedEndpoints::Ports(port), conns, None), Ports(first, most)) => *port == first
+        ((OwnedEndpoints::Ports(port), conns, None, 0), Ports(first, most)) => *port == first
             && conns == most,
-        ((OwnedEndpoints::Sockets(folder), conns, None), Sockets(path, most)) => folder.as_str()
+        ((OwnedEndpoints::Sockets(folder), conns, None, 0), Sockets(path, most)) => folder.as_str()
             == path
             && conns == most,
-        ((OwnedEndpoints::Ports(port), 0, Some(patience)), Patient(first, seconds)) => *port
+        ((OwnedEndpoints::Ports(port), 0, Some(patience), 0), Patient(first, seconds)) => *port
             == first
             && patience == seconds,
+        ((OwnedEndpoints::Ports(port), 0, None, scrub), Scrubbed(first, seconds)) => *port == first
+            && scrub == seconds,
         _ => false,
     }
 }

@@ -2,6 +2,7 @@ pub mod Beginnings
 pub mod Http
 pub mod Ports
 pub mod Runs
+pub mod Scrubs
 pub mod Service
 pub mod Serving
 pub mod Stores

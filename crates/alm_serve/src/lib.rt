@@ -49,6 +49,9 @@
 //! there are such ones. `Open` says what the device became by an opening's calls, and is the device's fault only if a failure
 //! was counted. After `Net`, `Memory`, and `Write` without a whole run, the device is as an opening left it.
 //!
+//! A [`Scrub`] reads the device's file again in a thread of its own, past what the kernel keeps of it. Damage that two looks find is
+//! healed by a checkpoint, which the flusher's thread opens.
+//!
 //! A device call that hangs can't be ended. With a [`Patience`] the calls of a [`CountedDisk`] are counted, and the ports serve
 //! nobody while one takes too long. Requests that were sent before stay: they are done if the call comes back well.
 //!
@@ -90,12 +93,14 @@ mod connection_count;
 mod counted_disk;
 mod first_bytes;
 mod first_line;
+mod found;
 pub mod laws;
 mod listen;
 mod opening;
 mod patience;
 mod port_fault;
 mod ports;
+mod scrub;
 mod serve_fault;
 mod served;
 mod server_end;
@@ -107,16 +112,19 @@ mod slot_service;
 mod slot_stream;
 mod socket_folder;
 mod sockets;
+mod stop;
 mod store_end;
 mod stream_wire;
 mod traffic;
 mod transcript;
 
 pub use counted_disk::CountedDisk;
+pub use found::Found;
 pub use listen::Listen;
 pub use opening::SlotPorts;
 pub use patience::Patience;
 pub use port_fault::PortFault;
+pub use scrub::Scrub;
 pub use serve_fault::ServeFault;
 pub use served::Served;
 pub use server_end::ServerEnd;

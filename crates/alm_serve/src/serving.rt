@@ -124,6 +124,7 @@ fn run_parts<
     alloc: Global,
     parts: Parts<Durable<J>, WatchedLook<'h, SharedLook<J, P>, Free>, SharedBoard<J, P>, K, J>,
     ports: SlotPorts<'r, R, Durable<J>>,
+    healing: &Healing,
 ) -> Result<PortsRun<'r, K, J, R>, K>
     requires ports { map (λ port. port.slot) ports.ports.items ≡ parts.slots.items }
     requires new { AreNewConsoles parts.consoles.items }
@@ -133,7 +134,7 @@ fn run_parts<
     ensures refused { IfErr result (λ back. back ≡ parts.entry.middle.flusher.store) }
 {
     let SlotPorts { ports, bells } = ports;
-    match run_with_bells(rt, alloc, parts, &Free, &Healing::new(), bells, ports) {
+    match run_with_bells(rt, alloc, parts, &Free, healing, bells, ports) {
         Ok(run) => Ok(run),
         Err(started) => Err(started.store),
     }
@@ -147,6 +148,7 @@ fn run_behind<'r, J: RunId + Send + Sync, K: Store, R: Threads + Wait + Clock + 
     store: K,
     slots: Vec<Slot>,
     ports: SlotPorts<'r, R, Durable<J>>,
+    healing: &Healing,
 ) -> Result<PortsRun<'r, K, J, R>, K>
     requires books { (new.history.seen.book ≡ J.book) × (new.moments.seen.book ≡ J.moments) }
     requires named { IsNamedAfter J.RunId K.Store K.Device.Disk store }
@@ -160,7 +162,7 @@ fn run_behind<'r, J: RunId + Send + Sync, K: Store, R: Threads + Wait + Clock + 
     ensures refused { IfErr result (λ back. back ≡ store) }
 {
     let parts = parts_of::<J, K, Free, R>(rt, alloc, new, store, slots, &Free)?;
-    run_parts::<J, Plant, K, R>(rt, alloc, parts, ports)
+    run_parts::<J, Plant, K, R>(rt, alloc, parts, ports, healing)
 }
 
 /// Serves an open store at the open ports of these slots, in their order, and returns the run, or the store if nothing was run.
@@ -182,6 +184,7 @@ pub fn serve_store<
     store: K,
     slots: Vec<Slot>,
     ports: SlotPorts<'r, R, Durable<J>>,
+    healing: &Healing,
     listen: &L,
     writer: &mut W,
 ) -> PortsEnd<'r, K, J, R>
@@ -200,7 +203,7 @@ pub fn serve_store<
         Ok(()) => {}
         Err(_) => return StoreEnd::Unserved(ServeFault::Write, store),
     }
-    match run_behind::<J, K, R>(rt, alloc, new, store, slots, ports) {
+    match run_behind::<J, K, R>(rt, alloc, new, store, slots, ports, healing) {
         Ok(run) => StoreEnd::Served(print_end(&run.report, writer), run),
         Err(store) => StoreEnd::Unserved(ServeFault::Memory, store),
     }
@@ -218,6 +221,7 @@ fn serve_over<
     alloc: Global,
     new: NewRun,
     store: K,
+    healing: &Healing,
     listen: &L,
     conns: u32,
     writer: &mut W,
@@ -242,7 +246,9 @@ fn serve_over<
         Err(PortFault::Net) => return ServerEnd::unserved(ServeFault::Net, store),
         Err(PortFault::OutOfMemory) => return ServerEnd::unserved(ServeFault::Memory, store),
     };
-    ServerEnd::of(serve_store::<J, K, L, W, R>(rt, alloc, new, store, slots, ports, listen, writer))
+    ServerEnd::of(serve_store::<J, K, L, W, R>(
+        rt, alloc, new, store, slots, ports, healing, listen, writer,
+    ))
 }
 
 /// Opens a device, serves its slots for `conns` connections in all, 0 without end, and returns the device.
@@ -257,6 +263,7 @@ fn serve_device<D: Disk + Drop, L: Listen<R>, W: io::Write, R: Threads + Wait + 
     rt: &R,
     alloc: Global,
     disk: D,
+    healing: &Healing,
     listen: &L,
     conns: u32,
     writer: &mut W,
@@ -271,7 +278,7 @@ fn serve_device<D: Disk + Drop, L: Listen<R>, W: io::Write, R: Threads + Wait + 
         Ok(keeper) => {
             let new = NewRun::new();
             let end = serve_over::<Brand, Keeper<D>, L, W, R>(
-                rt, alloc, new, keeper, listen, conns, writer,
+                rt, alloc, new, keeper, healing, listen, conns, writer,
             );
             ServerEnd {
                 served: end.served,
@@ -286,7 +293,7 @@ fn serve_device<D: Disk + Drop, L: Listen<R>, W: io::Write, R: Threads + Wait + 
 /// Serves the slots of a device on the 18 ports of loopback from this one on, and returns the device. It writes `serving P`.
 ///
 /// `conns` is the number of connections in all; 0 is without end. With a `patience` no client is served while a call of the
-/// patience's device takes longer than that.
+/// patience's device takes longer than that. By `healing` a reader of the device asks for a checkpoint.
 pub fn serve_ports<D: Disk + Drop, W: io::Write, R: Net + Threads + Wait + Clock + Sync>(
     rt: &R,
     alloc: Global,
@@ -294,6 +301,7 @@ pub fn serve_ports<D: Disk + Drop, W: io::Write, R: Net + Threads + Wait + Clock
     port: u16,
     conns: u32,
     patience: Option<&Patience>,
+    healing: &Healing,
     writer: &mut W,
 ) -> ServerEnd<D>
     requires { port ≤ 65518 }
@@ -307,7 +315,7 @@ pub fn serve_ports<D: Disk + Drop, W: io::Write, R: Net + Threads + Wait + Clock
         first: port,
         patience,
     };
-    serve_device(rt, alloc, disk, &listen, conns, writer)
+    serve_device(rt, alloc, disk, healing, &listen, conns, writer)
 }
 
 /// The same at 18 Unix sockets in this folder, which must exist: slot k at the socket k. It writes `serving FOLDER`, the folder as
@@ -327,6 +335,7 @@ pub fn serve_sockets<
     folder: &str,
     conns: u32,
     patience: Option<&Patience>,
+    healing: &Healing,
     writer: &mut W,
 ) -> ServerEnd<D>
     ensures writes { ServeWrites (IsLeftOpened D.Disk StandsFor disk result.back)
@@ -339,6 +348,7 @@ pub fn serve_sockets<
         rt,
         alloc,
         disk,
+        healing,
         &Sockets { folder, patience },
         conns,
         writer,
@@ -360,5 +370,5 @@ pub fn serve_run<D: Disk + Drop, W: io::Write, R: Net + Threads + Wait + Clock +
         ServeWrites (IsLeftOpened D.Disk StandsFor disk back) (HasServed D.Disk StandsFor disk back)
         (decimal port) (W.contents writer.old) (W.contents writer.new) result }
 {
-    serve_ports(rt, alloc, disk, port, conns, None, writer).served
+    serve_ports(rt, alloc, disk, port, conns, None, &Healing::new(), writer).served
 }

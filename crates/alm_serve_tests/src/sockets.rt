@@ -3,6 +3,7 @@
 use crate::client::asks;
 use crate::rows::worked_disk;
 use alm_serve::{ServeFault, serve_sockets};
+use alm_wake::Healing;
 use std::fs::{self, File, Files};
 use std::io;
 use std::net::Net;
@@ -72,7 +73,17 @@ fn two_connections_at_sockets(rt: HostRuntime) -> Result<(), Fail> {
         let disk = worked_disk(rt.alloc())?.ok_or("format")?;
         let clients = thread::spawn(&rt, move || two_clients(&rt, folder))?;
         let mut output = Vec::new(rt.alloc());
-        let served = serve_sockets(&rt, rt.alloc(), disk, folder, 2, None, &mut output).served;
+        let served = serve_sockets(
+            &rt,
+            rt.alloc(),
+            disk,
+            folder,
+            2,
+            None,
+            &Healing::new(),
+            &mut output,
+        )
+        .served;
         assert!(rt; served == Ok(2));
         let said = format!(in rt.alloc(); "serving {folder}\nstopped 2\n")?;
         assert_eq!(rt; output.as_slice(), said.as_bytes());
@@ -90,7 +101,17 @@ fn is_refused<R: Net + Files<File = File> + Threads + Wait + Clock + Sync + Allo
 ) -> Result<bool, Fail> {
     let disk = worked_disk(rt.alloc())?.ok_or("format")?;
     let mut output = Vec::new(rt.alloc());
-    let served = serve_sockets(rt, rt.alloc(), disk, folder, 1, None, &mut output).served;
+    let served = serve_sockets(
+        rt,
+        rt.alloc(),
+        disk,
+        folder,
+        1,
+        None,
+        &Healing::new(),
+        &mut output,
+    )
+    .served;
     Ok(served == Err(ServeFault::Net) && output.is_empty())
 }
 

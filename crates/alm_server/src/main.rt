@@ -7,7 +7,7 @@
 //! alm_server format plant.device plant.toml
 //! alm_server desk plant.device
 //! alm_server serve plant.device --port 5000
-//! alm_server serve plant.device --sockets /run/alarms/plant --patience 10
+//! alm_server serve plant.device --sockets /run/alarms/plant --patience 10 --scrub 3600
 //! ```
 //!
 //! Proved:

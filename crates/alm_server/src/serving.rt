@@ -9,13 +9,14 @@ ghost use Rattle.alm_server.specs.Serving.{IsNotServed, IsServedFrom, end_of_ser
 use alm_disk::Disk;
 use alm_file::{PlacedDisk, Start};
 use alm_program::{Fault, OwnedEndpoints, ServeOrder, file_fault};
-use alm_serve::{CountedDisk, Patience, ServeFault, ServerEnd, serve_ports, serve_sockets};
+use alm_serve::{CountedDisk, Patience, Scrub, ServeFault, ServerEnd, serve_ports, serve_sockets};
+use alm_wake::Healing;
 use std::fs::{File, Files};
-use std::io;
 use std::net::Net;
 use std::sync::Wait;
 use std::thread::Threads;
 use std::time::Clock;
+use std::{io, thread};
 
 /// What a fault of serving is to the program.
 pub fn serve_fault(fault: ServeFault) -> Fault
@@ -34,19 +35,93 @@ pub fn serve_fault(fault: ServeFault) -> Fault
 fn serve_disk<
     D: Disk + Drop,
     R: Files<File = File> + Print + Net + Threads + Wait + Clock + Sync + AllocGlobal,
->(rt: &R, disk: D, patience: Option<&Patience>, order: &ServeOrder) -> ServerEnd<D>
+>(
+    rt: &R,
+    disk: D,
+    patience: Option<&Patience>,
+    healing: &Healing,
+    order: &ServeOrder,
+) -> ServerEnd<D>
     ensures { ServeEnds D.Disk StandsFor IsLastEpoch disk result.back result.cause result.served }
 {
     let (alloc, conns, mut writer) = (rt.alloc(), order.conns, io::writer(rt));
     match &order.endpoints {
         OwnedEndpoints::Ports(port) => {
-            serve_ports(rt, alloc, disk, *port, conns, patience, &mut writer)
+            serve_ports(
+                rt,
+                alloc,
+                disk,
+                *port,
+                conns,
+                patience,
+                healing,
+                &mut writer,
+            )
         }
         OwnedEndpoints::Sockets(folder) => {
             let folder = folder.as_str();
-            serve_sockets(rt, alloc, disk, folder, conns, patience, &mut writer)
+            serve_sockets(
+                rt,
+                alloc,
+                disk,
+                folder,
+                conns,
+                patience,
+                healing,
+                &mut writer,
+            )
         }
     }
+}
+
+/// The same with a thread of its own that scrubs the device's file. Nothing is served if that thread can't be made.
+fn serve_scrubbed<
+    's,
+    D: Disk + Drop,
+    R: Files<File = File> + Print + Net + Threads + Wait + Clock + Sync + AllocGlobal,
+>(
+    rt: &'s R,
+    disk: D,
+    patience: Option<&Patience>,
+    scrub: &'s Scrub<'s, R>,
+    order: &ServeOrder,
+) -> Result<ServerEnd<D>, Fault>
+    ensures ends { IfOk result
+        (λ end. ServeEnds D.Disk StandsFor IsLastEpoch disk end.back end.cause end.served) }
+    ensures memory { IfErr result (λ fault. fault ≡ Fault.OutOfMemory) }
+{
+    thread::scope(
+        thread::scope_env(),
+        rt,
+        |scope| -> Result<ServerEnd<D>, Fault>
+            ensures ends { IfOk result
+                (λ end. ServeEnds D.Disk StandsFor IsLastEpoch disk end.back end.cause end.served) }
+            ensures memory { IfErr result (λ fault. fault ≡ Fault.OutOfMemory) }
+        {
+            if scope.spawn(move || scrub.run()).is_err() {
+                return Err(Fault::OutOfMemory);
+            }
+            let end = serve_disk(rt, disk, patience, scrub.healing(), order);
+            scrub.stop();
+            Ok(end)
+        },
+    )
+}
+
+/// Serves the slots of a device, with scrubs if they are asked for.
+fn serve_watched<
+    D: Disk + Drop,
+    R: Files<File = File> + Print + Net + Threads + Wait + Clock + Sync + AllocGlobal,
+>(rt: &R, disk: D, patience: Option<&Patience>, order: &ServeOrder) -> Result<ServerEnd<D>, Fault>
+    ensures ends { IfOk result
+        (λ end. ServeEnds D.Disk StandsFor IsLastEpoch disk end.back end.cause end.served) }
+    ensures memory { IfErr result (λ fault. fault ≡ Fault.OutOfMemory) }
+{
+    let scrub = Scrub::new(rt, order.device.as_str(), order.scrub);
+    if order.scrub == 0 {
+        return Ok(serve_disk(rt, disk, patience, scrub.healing(), order));
+    }
+    serve_scrubbed(rt, disk, patience, &scrub, order)
 }
 
 /// Serves the slots of a device whose calls are counted, and returns it. Only with a patience is the count asked.
@@ -62,7 +137,7 @@ fn serve_counted<
     let patience = Patience::new(rt.alloc(), order.patience.unwrap_or(0))?;
     let counted = patience.count(disk)?;
     let asked = order.patience.map(|_| &patience);
-    Ok(serve_disk(rt, counted, asked, order))
+    serve_watched(rt, counted, asked, order)
 }
 
 /// Serves the slots of a device's file as requested, and returns the device with the record of its calls.

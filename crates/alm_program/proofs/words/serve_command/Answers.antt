@@ -9,4 +9,5 @@ returns c =
     let port = c.in_ok-above-2.ensures _ device in
     let sockets = c.in_ok-above-3.ensures _ port in
     let conns = c.in_ok-above-4.ensures _ sockets in
-    c.with_option-4.ensures _ conns
+    let patience = c.in_ok-above-5.ensures _ conns in
+    c.with_option-5.ensures _ patience
