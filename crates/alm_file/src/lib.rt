@@ -64,7 +64,6 @@ mod placed_disk;
 mod record;
 mod recorded_file;
 mod scrub_file;
-mod standing;
 mod start;
 mod streams;
 mod successor;

@@ -11,10 +11,9 @@ use crate::disk_cache::{forget, has_no_sync};
 use crate::file_lock::FileLock;
 use crate::place::replaced;
 use crate::record::Record;
-use crate::standing::Standing;
 use std::fs::{File, Metadata};
 use std::io;
-use std::os::unix::fs::FileExt;
+use std::os::unix::fs::{FileExt, MetadataExt};
 
 /// The kinds of calls, as the record has them.
 const READ: u64 = 0;
@@ -102,8 +101,8 @@ impl RecordedFile {
 
     /// Fails if no path names the file any more, or its size isn't this one.
     pub fn look(&self, size: u64) -> io::Result<()> {
-        let found = Standing::of(&self.file)?;
-        if found.names > 0 && found.size == size {
+        let found = self.file.metadata()?;
+        if found.nlink() > 0 && found.len() == size {
             Ok(())
         } else {
             Err(replaced())
