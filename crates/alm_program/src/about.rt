@@ -14,8 +14,7 @@ const VERSION: &str = "alm_server 0.4.0\n";
 
 const USAGE: &str = "usage: alm_server format DEVICE TABLE [--version 02|03]
        alm_server upgrade DEVICE [--version 02|03]
-       alm_server serve DEVICE --port P|--sockets FOLDER [--conns N] [--patience SECONDS]
-           [--scrub SECONDS]
+       alm_server serve DEVICE --port P|--sockets FOLDER [--conns N] [--patience SECONDS] [--scrub SECONDS]
        alm_server desk [DEVICE]
        alm_server show DEVICE
        alm_server export DEVICE
