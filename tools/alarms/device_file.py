@@ -129,6 +129,22 @@ class DeviceFile:
         """What stands where a half whose gate is closed has its head."""
         return self.head_of_text(half, self.read(self.half_at(half), 17), False)
 
+    def before(self, newest: Head) -> Optional[Head]:
+        """The head of the half that stood before the one that stands, where it is whole: it has its frames until the
+        next checkpoint begins. In version 03 it is shut."""
+        older = self.head_of(1 - newest.half) or self.shut_head_of(1 - newest.half)
+        return older if older and older.epoch + 1 == newest.epoch else None
+
+    def shut_head_of(self, half: int) -> Optional[Head]:
+        """The head of a half of version 03 whose gate is closed, if it has its checksum."""
+        head = self.closed_head_of(half) if self.name == SUMMED_NAME else None
+        text = self.read(self.half_at(half), HEAD)
+        return head if len(text) == HEAD and not head_fault(text, self.header, half, self.image) else None
+
+    def stands_whole(self, head: Head) -> bool:
+        """Whether nobody began to write over a half: then its gate is closed first, in version 03 its head written."""
+        return head in (self.head_of(head.half), self.shut_head_of(head.half))
+
     def is_open(self, gate: bytes) -> bool:
         """Whether the gate of a frame is open."""
         return is_frame_open(gate, self.name)

@@ -103,7 +103,7 @@ class Mirror:
         """Takes the first image that isn't ahead of the limit."""
         while True:
             newest = self.device.standing()
-            older = self.before(newest)
+            older = self.device.before(newest)
             heads = [head for head in ((older, newest) if far else (newest, older)) if head]
             for head in heads:
                 plant = self.image_within(head, limit, head != newest)
@@ -117,27 +117,17 @@ class Mirror:
                     f" {limit}: is it the server's device?"
                 )
 
-    def before(self, newest: Head) -> Optional[Head]:
-        """The half before the one that stands, where it is whole: it has its frames until the next checkpoint
-        begins."""
-        older = self.device.head_of(1 - newest.half)
-        return older if older and older.epoch + 1 == newest.epoch else None
-
-    def is_whole(self, head: Head) -> bool:
-        """Whether nobody began to write over a half. Its gate is closed before anything else of it is written."""
-        return self.device.head_of(head.half) == head
-
     def image(self, head: Head) -> Optional[PlantModel]:
         """The plant of a half's image; none if the half was overwritten meanwhile."""
         try:
             image = self.device.image_of(head)
         except Damaged:
-            if self.is_whole(head):
+            if self.device.stands_whole(head):
                 raise
             return None
-        return (
-            PlantModel.of_image(image, self.device.rows, self.device.areas, head.count) if self.is_whole(head) else None
-        )
+        if not self.device.stands_whole(head):
+            return None
+        return PlantModel.of_image(image, self.device.rows, self.device.areas, head.count)
 
     def image_within(self, head: Head, limit: int, is_dispensable: bool) -> Optional[PlantModel]:
         """The plant of an image that isn't ahead of a limit. One that isn't needed may be damaged."""
@@ -160,9 +150,9 @@ class Mirror:
         try:
             frames.extend(itertools.islice(self.device.frames(self.head, self.at, self.first), FRAMES))
         except Damaged:
-            if not frames and self.is_whole(self.head):
+            if not frames and self.device.stands_whole(self.head):
                 raise
-        return frames if self.is_whole(self.head) else []
+        return frames if self.device.stands_whole(self.head) else []
 
     def rest(self, limit: int) -> Iterator[Step]:
         """The actions after this place of the half, up to the limit."""
@@ -198,16 +188,16 @@ class Mirror:
                 damage = fault
             newest = self.device.standing()
             if newest == self.head:
-                if damage and self.is_whole(self.head):
+                if damage and self.device.stands_whole(self.head):
                     raise damage
                 return
             if newest.count <= self.count:
                 self.enter(newest)
             elif self.count >= limit:
                 return
-            elif self.is_whole(self.head) and not damage and (newest != known or self.count > before):
+            elif self.device.stands_whole(self.head) and not damage and (newest != known or self.count > before):
                 known = newest
-            elif gap := self.leap(newest, limit, self.is_whole(self.head)):
+            elif gap := self.leap(newest, limit, self.device.stands_whole(self.head)):
                 yield gap
             elif newest.count > limit:
                 return  # each image is ahead of the limit: the next look has a later one
@@ -215,7 +205,7 @@ class Mirror:
     def leap(self, newest: Head, limit: int, is_damaged: bool) -> Optional[Gap]:
         """Goes on in another half, as the one that was read is gone, or is damaged and the newest isn't. What lies
         between isn't there any more."""
-        for head in filter(None, (None if is_damaged else self.before(newest), newest)):
+        for head in filter(None, (None if is_damaged else self.device.before(newest), newest)):
             if head.count <= self.count:
                 self.enter(head)
                 return None
@@ -266,7 +256,7 @@ class Mirror:
         ):
             return True
         try:
-            return self.passed is not None and not self.still_has(*self.passed) and self.is_whole(self.head)
+            return self.passed is not None and not self.still_has(*self.passed) and self.device.stands_whole(self.head)
         except Damaged:
             if newest == self.head:
                 raise

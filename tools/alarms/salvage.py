@@ -96,7 +96,7 @@ def told(device: DeviceFile, judged: Judged) -> None:
 
 def tell_further(device: DeviceFile, judged: Judged) -> None:
     """Says whether the half before a damaged one goes farther: a checkpoint copies the actions that come meanwhile."""
-    before = device.head_of(1 - judged.head.half)
+    before = device.before(judged.head)
     other = judge(device, before) if before else None
     if other and other.count > judged.count:
         say(holds(other))
