@@ -15,7 +15,7 @@
 //! | `read_at`, `write_at` | read and write at a place (`pread`, `pwrite`): all bytes, or an error |
 //! | `sync` | waits until the file's bytes are on the disk (`fdatasync`); fails if no path names the file any more, or its size has changed |
 //! | [`PlacedDisk::open`] | the same file, whose `sync` also fails if its own path names another file |
-//! | [`ScrubFile::open`] | the same file once more, with no lock, to be read in pieces while the device is used |
+//! | [`ScrubFile::open`], `read` | the same file once more, with no lock; reads it in pieces while the device is used |
 //! | [`FileLock::release`] | lets other processes have the file |
 //! | [`Successor::make`] | makes a new file next to a device's, with its owner and its permissions |
 //! | [`Successor::take_place`] | gives it the name of the device's file (`rename`), and waits until that is on the disk |
@@ -64,6 +64,7 @@ mod placed_disk;
 mod record;
 mod recorded_file;
 mod scrub_file;
+mod scrub_read;
 mod start;
 mod streams;
 mod successor;
@@ -74,6 +75,7 @@ pub use file_lock::FileLock;
 pub use pause::Pause;
 pub use placed_disk::PlacedDisk;
 pub use scrub_file::ScrubFile;
+pub use scrub_read::ScrubRead;
 pub use start::{Start, Unknown};
 pub use streams::fill_streams;
 pub use successor::Successor;

@@ -20,7 +20,7 @@ pub enum Found {
     Unreadable,
     /// It opens as an older plant, of this number of actions.
     Older(u64),
-    /// It couldn't be opened, or there was no memory: nothing is known.
+    /// There was no memory, or it was to end: nothing is known.
     Nothing,
 }
 

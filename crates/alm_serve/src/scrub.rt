@@ -3,11 +3,10 @@
 use crate::found::{Found, print_found};
 use crate::stop::Stop;
 use alm_disk::Disk;
-use alm_file::{Pause, ScrubFile};
+use alm_file::{Pause, ScrubFile, ScrubRead};
 use alm_keeper::open_store;
 use alm_wake::Healing;
 use std::alloc::Global;
-use std::fs::{File, Files};
 use std::io::{self, Print};
 use std::sync::Wait;
 use std::time::Duration;
@@ -24,12 +23,12 @@ const CHECKPOINT: u32 = 20;
 /// How many seconds lie between these looks.
 const BETWEEN: u64 = 1;
 
-/// Scrubs the device of a run. Its file is opened again each time after some seconds, and read past what the kernel keeps of it. If it
+/// Scrubs the device of a run. Its file is read again each time after some seconds, past what the kernel keeps of it. If it
 /// is damaged, or lacks what was stored before, a checkpoint is asked for: it writes the plant that the run has in memory.
 #[derive(Drop)]
 pub struct Scrub<'r, R> {
     rt: &'r R,
-    device: &'r str,
+    file: ScrubFile,
     seconds: u32,
     stop: Stop<'r, R>,
     healing: Healing,
@@ -43,7 +42,7 @@ struct Look {
 }
 
 // Opens a device again, on which `stored` actions are known to be stored.
-fn look_at<P: Pause>(alloc: Global, file: ScrubFile<'_, P>, stored: u64) -> Look {
+fn look_at<P: Pause>(alloc: Global, file: ScrubRead<'_, P>, stored: u64) -> Look {
     match open_store(alloc, file) {
         Ok(keeper) => {
             let count = keeper.count();
@@ -63,11 +62,11 @@ fn look_at<P: Pause>(alloc: Global, file: ScrubFile<'_, P>, stored: u64) -> Look
 }
 
 impl<'r, R> Scrub<'r, R> {
-    /// Of the device's file at this path, each time after a number of seconds.
-    pub fn new(rt: &'r R, device: &'r str, seconds: u32) -> Self {
+    /// Of the device's file, each time after a number of seconds.
+    pub fn new(rt: &'r R, file: ScrubFile, seconds: u32) -> Self {
         Scrub {
             rt,
-            device,
+            file,
             seconds,
             stop: Stop::new(rt),
             healing: Healing::new(),
@@ -92,7 +91,7 @@ impl<R: Print> Scrub<'_, R> {
     }
 }
 
-impl<R: Files<File = File> + Print + Wait + AllocGlobal> Scrub<'_, R> {
+impl<R: Print + Wait + AllocGlobal> Scrub<'_, R> {
     /// Scrubs until it is stopped.
     pub fn run(&self) {
         for _ in self.rt.forever() {
@@ -108,7 +107,7 @@ impl<R: Files<File = File> + Print + Wait + AllocGlobal> Scrub<'_, R> {
     // A look at the device. What is stored is asked before it.
     fn look(&self) -> Look {
         let stored = self.healing.stored();
-        let look = match ScrubFile::open(self.rt, self.device, &self.stop) {
+        let look = match self.file.read(&self.stop) {
             Ok(file) => look_at(self.rt.alloc(), file, stored),
             Err(_) => Look {
                 found: Found::Nothing,

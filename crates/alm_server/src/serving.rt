@@ -7,14 +7,14 @@ ghost use Rattle.alm_serve.specs.Runs.{ServeEnds};
 ghost use Rattle.alm_server.specs.Serving.{IsNotServed, IsServedFrom, end_of_serving, fault_of_serve};
 
 use alm_disk::Disk;
-use alm_file::{PlacedDisk, Start};
+use alm_file::{FileFault, PlacedDisk, ScrubFile, Start};
 use alm_program::{Fault, OwnedEndpoints, ServeOrder, file_fault};
 use alm_serve::{CountedDisk, Patience, Scrub, ServeFault, ServerEnd, serve_ports, serve_sockets};
 use alm_wake::Healing;
 use std::fs::{File, Files};
 use std::net::Net;
 use std::sync::Wait;
-use std::thread::Threads;
+use std::thread::{Scope, Threads};
 use std::time::Clock;
 use std::{io, thread};
 
@@ -74,6 +74,19 @@ fn serve_disk<
     }
 }
 
+/// Starts to scrub in a thread of its own.
+fn start<'s, E, R: Print + Wait + Sync + AllocGlobal>(
+    scope: &Scope<'s, E>,
+    scrub: &'s Scrub<'s, R>,
+) -> Result<(), Fault>
+    ensures memory { IfErr result (λ fault. fault ≡ Fault.OutOfMemory) }
+{
+    match scope.spawn(move || scrub.run()) {
+        Ok(_thread) => Ok(()),
+        Err(_) => Err(Fault::OutOfMemory),
+    }
+}
+
 /// The same with a thread of its own that scrubs the device's file. Nothing is served if that thread can't be made.
 fn serve_scrubbed<
     's,
@@ -98,9 +111,7 @@ fn serve_scrubbed<
                 (λ end. ServeEnds D.Disk StandsFor IsLastEpoch disk end.back end.cause end.served) }
             ensures memory { IfErr result (λ fault. fault ≡ Fault.OutOfMemory) }
         {
-            if scope.spawn(move || scrub.run()).is_err() {
-                return Err(Fault::OutOfMemory);
-            }
+            start(scope, scrub)?;
             let end = serve_disk(rt, disk, patience, scrub.healing(), order);
             scrub.stop();
             Ok(end)
@@ -108,27 +119,40 @@ fn serve_scrubbed<
     )
 }
 
-/// Serves the slots of a device, with scrubs if they are asked for.
+/// Serves the slots of a device, and scrubs its file if it is given.
 fn serve_watched<
     D: Disk + Drop,
     R: Files<File = File> + Print + Net + Threads + Wait + Clock + Sync + AllocGlobal,
->(rt: &R, disk: D, patience: Option<&Patience>, order: &ServeOrder) -> Result<ServerEnd<D>, Fault>
+>(
+    rt: &R,
+    disk: D,
+    file: Option<ScrubFile>,
+    patience: Option<&Patience>,
+    order: &ServeOrder,
+) -> Result<ServerEnd<D>, Fault>
     ensures ends { IfOk result
         (λ end. ServeEnds D.Disk StandsFor IsLastEpoch disk end.back end.cause end.served) }
     ensures memory { IfErr result (λ fault. fault ≡ Fault.OutOfMemory) }
 {
-    let scrub = Scrub::new(rt, order.device.as_str(), order.scrub);
-    if order.scrub == 0 {
-        return Ok(serve_disk(rt, disk, patience, scrub.healing(), order));
+    match file {
+        Some(file) => {
+            let scrub = Scrub::new(rt, file, order.scrub);
+            serve_scrubbed(rt, disk, patience, &scrub, order)
+        }
+        None => Ok(serve_disk(rt, disk, patience, &Healing::new(), order)),
     }
-    serve_scrubbed(rt, disk, patience, &scrub, order)
 }
 
 /// Serves the slots of a device whose calls are counted, and returns it. Only with a patience is the count asked.
 fn serve_counted<
     D: Disk + Drop,
     R: Files<File = File> + Print + Net + Threads + Wait + Clock + Sync + AllocGlobal,
->(rt: &R, disk: D, order: &ServeOrder) -> Result<ServerEnd<CountedDisk<D>>, Fault>
+>(
+    rt: &R,
+    disk: D,
+    file: Option<ScrubFile>,
+    order: &ServeOrder,
+) -> Result<ServerEnd<CountedDisk<D>>, Fault>
     ensures from { (start : List ℕ) → BeginsAs start (D.size disk) (D.honest disk) (D.state disk) →
         IfOk result
         (λ end. IsServedFrom ⟦<CountedDisk<D> as Disk>⟧ start end.back end.cause end.served) }
@@ -137,7 +161,21 @@ fn serve_counted<
     let patience = Patience::new(rt.alloc(), order.patience.unwrap_or(0))?;
     let counted = patience.count(disk)?;
     let asked = order.patience.map(|_| &patience);
-    serve_watched(rt, counted, asked, order)
+    serve_watched(rt, counted, file, asked, order)
+}
+
+/// The device's file once more, if it is to be scrubbed.
+fn file_to_scrub<R: Files<File = File>>(
+    rt: &R,
+    order: &ServeOrder,
+) -> Result<Option<ScrubFile>, FileFault> {
+    if order.scrub == 0 {
+        return Ok(None);
+    }
+    match ScrubFile::open(rt, order.device.as_str()) {
+        Ok(file) => Ok(Some(file)),
+        Err(fault) => Err(fault),
+    }
 }
 
 /// Serves the slots of a device's file as requested, and returns the device with the record of its calls.
@@ -157,10 +195,15 @@ pub fn serve_file<
         end.cause end.served) }
     ensures refused { IfErr result IsNotServed }
 {
-    match PlacedDisk::open(rt, order.device.as_str(), start) {
-        Ok(disk) => serve_counted(rt, disk, order),
-        Err(fault) => Err(file_fault(fault)),
-    }
+    let disk = match PlacedDisk::open(rt, order.device.as_str(), start) {
+        Ok(disk) => disk,
+        Err(fault) => return Err(file_fault(fault)),
+    };
+    let file = match file_to_scrub(rt, order) {
+        Ok(file) => file,
+        Err(fault) => return Err(file_fault(fault)),
+    };
+    serve_counted(rt, disk, file, order)
 }
 
 /// What a server's end is to the program: its fault, if it has one.
