@@ -161,7 +161,8 @@ fn serve_counted<
     let patience = Patience::new(rt.alloc(), order.patience.unwrap_or(0))?;
     let counted = patience.count(disk)?;
     let asked = order.patience.map(|_| &patience);
-    serve_watched(rt, counted, file, asked, order)
+    let end = serve_watched(rt, counted, file, asked, order)?;
+    Ok(end)
 }
 
 /// The device's file once more, if it is to be scrubbed.
