@@ -14,7 +14,7 @@ import shutil
 import sys
 import threading
 import time
-from typing import Optional
+from typing import Optional, Sequence
 
 from lib.places import EXAMPLES
 from lib.program import PLANT, Fault, begin, check, count_of, finish, preload, run_words, show
@@ -27,6 +27,9 @@ SCRUBS = ("--scrub", "1")
 WITHIN = 30.0
 # Bytes of the larger device under load. The smaller one turns its halves each 59 frames of one action.
 REFINERY = 4_000_000
+# What an opening reads. A short run damages the first of them, and lasts so many seconds under each load.
+PARTS = ("image", "gate", "half", "head", "frame")
+SHORT = 2.0
 DICE = random.Random(5)
 
 
@@ -109,9 +112,9 @@ class Damages:
         check(count_of(self.shown()) == count + 3, name, "the healed device shows", self.shown())
         self.done += 1
 
-    def heals(self) -> None:
-        """A byte of each part that an opening reads, and gates that become 5A."""
-        for part in ("image", "head", "frame", "gate", "half"):
+    def heals(self, parts: Sequence[str]) -> None:
+        """A byte of each of these parts, or a gate that becomes 5A."""
+        for part in parts:
             device, frames = self.worked()
             half = device.standing()
             at = {
@@ -194,7 +197,7 @@ class Damages:
                 if is_said:
                     check(said.wait(1, kind) == [b"scrub disk\n"], "reads that fail:", said.lines)
                 else:
-                    time.sleep(4)
+                    time.sleep(3)
                     check(not said.lines, "a read that fails once:", said.lines)
                 self.advance(server, 1, 3)
             check(count_of(self.shown()) == 3, "after reads that fail:", self.shown())
@@ -228,11 +231,11 @@ class Damages:
 
 
 def main() -> None:
-    program, seconds, folder = begin("scrub", sys.argv, 120.0, 4.0)
+    program, seconds, folder = begin("scrub", sys.argv, 120.0, SHORT)
     damages = Damages(program, folder)
-    damages.heals()
+    damages.heals(PARTS if seconds > SHORT else PARTS[:3])
     damages.heals_older()
-    damages.passes(3.5)
+    damages.passes(3.0)
     damages.header()
     damages.reads(preload(folder))
     answered = damages.load(PLANT, 0, seconds)
