@@ -5,7 +5,7 @@ use Rattle.alm_store.specs.Pace.{Going}
 use Rattle.alm_store.specs.declared.phase.Phase.{Phase}
 
 pub record StoreState : Type 0 where
-  -- what is under way, and how many device calls are left of it
+  -- what is under way, and at most how many device calls are left of it
   pub phase : Phase
   pub left : ℕ
   -- the plant that is stored, and the one after what is under way
