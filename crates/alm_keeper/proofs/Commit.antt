@@ -1,6 +1,6 @@
 -- The bytes of a commit: its frame after the gate of the half that stands.
 use Rattle.std.proofs.Common.{◌≡◌, ℕ, ◌+◌, ◌*◌, ◌≤◌, true, false, List, [], ◌∷◌, ◌++◌, length, take, drop, sym, ◌∙◌, ap, arith, append_assoc, length-append, length-drop, take-append-drop}
-use Rattle.std.proofs.lemmas.List.{length-take-le}
+use Rattle.std.proofs.lemmas.List.{append-nil, length-take-le}
 use Rattle.alm_codec.specs.declared.asked.Asked.{Asked}
 use Rattle.alm_model.specs.Plant.{Condensed}
 use Rattle.alm_model.specs.Step.{run}
@@ -10,7 +10,9 @@ use Rattle.alm_codec.specs.Frames.{IsFrame, asked_actions, frame_body, frame_tex
 use Rattle.alm_codec.specs.Versions.{is_open, closed_gate}
 use Rattle.alm_checkpoint.specs.Cut.{Cut, Stores, Reaches, front, back, device_of, with_frame}
 use Rattle.alm_checkpoint.proofs.Grown.{pushes, reaches_pushed, stores_pushed, gate_at}
-use Rattle.alm_keeper.specs.Stand.{HoldsPlant, Account, account_of, Ready, TakesAsked, with_commit}
+use Rattle.alm_keeper.specs.Trail.{asked_in}
+use Rattle.alm_segment.specs.Texts.{Frame}
+use Rattle.alm_keeper.specs.Stand.{HoldsPlant, SaysIt, Account, account_of, Ready, TakesAsked, with_commit}
 use Rattle.alm_keeper.proofs.Devices.{frame_long}
 use Rattle.alm_keeper.proofs.Gates.{closed_shut}
 
@@ -20,9 +22,17 @@ regroup f m l b g = simp append_assoc
 regroup_body : (g z : ℕ) (f t l b : List ℕ) → f ++ (g ∷ (t ++ z ∷ [])) ++ (l ++ b) ≡ f ++ (g ∷ t ++ (z ∷ l)) ++ b
 regroup_body g z f t l b = simp append_assoc
 
+pub asked_pushed : (frames : List Frame) (f : Frame) → asked_in (frames ++ f ∷ []) ≡ asked_in frames ++ f.asked
+asked_pushed [] f = append-nil f.asked
+asked_pushed (g ∷ frames) f = ap (λ (l : List Asked). g.asked ++ l) (asked_pushed frames f) ∙ sym (append_assoc g.asked (asked_in frames) f.asked)
+
 -- what is held, by the account
 pub ready_holds : (a : Account) (b : List ℕ) → Ready a b → HoldsPlant a.epoch a.plant b
 ready_holds a b r = record { cut = r.cut; in_epoch = sym (ap (λ (x : Account). x.epoch) r.is); stores = r.stores; gate = r.gate; closed = r.closed; tail = r.tail; reaches = r.reaches; text = r.text }
+
+pub ready_says : (a : Account) (b : List ℕ) → Ready a b → SaysIt a b
+unfolding ready_holds
+ready_says a b r = (ready_holds a b r, ap (λ (x : Account). x.trail) r.is)
 
 pub body_long : (v : Version) (e n : ℕ) (actions : List Asked) → length (frame_body v e n actions) ≡ 19 + 16 * length actions
 body_long v e n actions = omega (arith, frame_long v e n actions, length-append (frame_text v e n actions) (closed_gate v ∷ []))
@@ -73,7 +83,7 @@ module _ (c : Cut) (plant : Condensed) (actions : List Asked) (gate : ℕ) (tail
         omega (arith, gate_at c plant (gate ∷ tail) stores reaches, gate_at grown_cut (run plant (asked_actions actions)) (next ∷ drop n tail) grown grown_reaches, left_long) in
         record {
           cut = grown_cut;
-          is = ap (λ (g : ℕ). record (account_of c plant) { gate = g; plant = run plant (asked_actions actions) }) place;
+          is = λ i. record (account_of c plant) { gate = place i; plant = run plant (asked_actions actions); trail = sym (asked_pushed c.frames (record { gate = own; asked = actions })) i };
           stores = grown;
           gate = next;
           closed = closed_shut c.version;

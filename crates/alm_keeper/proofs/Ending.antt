@@ -22,6 +22,7 @@ use Rattle.alm_keeper.proofs.Gates.{closed_shut}
 use Rattle.alm_keeper.proofs.Sides.{regroup, regroup_half}
 use Rattle.alm_keeper.proofs.Piecewise.{there, ahead_long, ready_with, left_long, here, front_is, room_long}
 use Rattle.alm_keeper.proofs.Sending.{run_long, run_fits}
+use Rattle.alm_keeper.specs.Trail.{asked_in}
 
 abbrev pub none : ℕ → Bool
 none place = false
@@ -68,7 +69,7 @@ module _ (c : Cut) (plant : Condensed) (gate : ℕ) (tail : List ℕ) (stores : 
   turned_ready : Ready (turned_by (account_of c plant) k) (ahead ++ (165 ∷ run) ++ (left ++ rear))
   turned_ready = record {
     cut = turned_cut;
-    is = λ i. record { layout = c.layout; half = other c.half; other_open = true; version = newer c.version; epoch = c.epoch + 1; gate = place i; plant = plant };
+    is = λ i. record { layout = c.layout; half = other c.half; other_open = true; version = newer c.version; epoch = c.epoch + 1; gate = place i; plant = plant; trail = asked_in k.since };
     stores = turned_stores;
     gate = next;
     closed = closed_shut (newer c.version);

@@ -20,12 +20,15 @@ use Rattle.alm_keeper.specs.declared.stage.Work.TheVariants.{Commit, Checkpoint}
 use Rattle.alm_keeper.specs.Stages.{IsWorking, turn_stage, rest_stage, rest_work, During}
 use Rattle.alm_checkpoint.specs.Headers.{is_summed}
 use Rattle.alm_checkpoint.proofs.Turned.{twice_other}
-use Rattle.alm_keeper.specs.Stand.{HoldsPlant, HoldsIt, Account, other_at, with_commit, turned_half}
+use Rattle.alm_keeper.specs.Stand.{HoldsIt, SaysIt, Account, saying, other_at, with_commit, turned_half}
+use Rattle.alm_keeper.specs.Trail.{asked_in, IsEnd}
+use Rattle.alm_keeper.specs.Saying.{AddsTo}
+use Rattle.alm_segment.specs.Texts.{written}
 use Rattle.alm_keeper.specs.Piecewise.{Copy, IsCopy, open_text, run_text, ended_by, with_copied_frame, with_sent_bytes}
 use Rattle.alm_keeper.specs.Phases.{Rest, Pause, End, KeptIn, StageCall, MakesCall, DuringIn, next_work, next_account}
-use Rattle.alm_keeper.specs.Keeping.{account, run_in, piece_of, done_by, account_next_at, account_next, InOrder, ClosesBook, TurnsBook, GrowsBook, GrowsWhere, IsBookAfter, sent_by, work_alone, work_beside, at_out, KeptBy, Keeps, PassesBy, PassesOn, MayLeave, EndsStep}
+use Rattle.alm_keeper.specs.Keeping.{account, run_in, piece_of, done_by, account_next_at, account_next, InOrder, ClosesBook, TurnsBook, GrowsBook, GrowsWhere, IsBookAfter, sent_by, work_alone, work_beside, at_out, CopiedIn, KeptBy, Keeps, PassesBy, PassesOn, LeavesSaying, EndsStep}
 use Rattle.alm_keeper.proofs.Carried.{open_grows, frame_is}
-use Rattle.alm_keeper.proofs.Commit.{ready_holds}
+use Rattle.alm_keeper.proofs.Commit.{asked_pushed, ready_says}
 use Rattle.alm_keeper.proofs.Order.{Possible, possible, opened}
 use Rattle.alm_keeper.proofs.Phases.{advances}
 
@@ -35,8 +38,8 @@ half_within l First size fits = omega (arith, fits)
 half_within l Second size fits = omega (arith, fits)
 
 -- a run by its length
-pub turned_is : (a : Account) (k : Copy) (n : ℕ) → length (run_text a k) ≡ n → ended_by a k ≡ turned_half a n
-turned_is a k n long = ap (λ (gate : ℕ). record (turned_half a n) { gate = gate }) place
+pub turned_is : (a : Account) (k : Copy) (n : ℕ) → length (run_text a k) ≡ n → ended_by a k ≡ saying (asked_in k.since) (turned_half a n)
+turned_is a k n long = ap (λ (gate : ℕ). record (turned_half a n) { gate = gate; trail = asked_in k.since }) place
   where
     place : other_at a + 1 + length (open_text a k) ≡ other_at a + n
     place = omega (arith, long, length-append (open_text a k) (closed_gate (newer a.version) ∷ []))
@@ -111,8 +114,8 @@ module _ (result : Result Unit DiskFault) (a : Account) (actions : List Asked) (
       (within, subst (λ (m : ℕ). Writes m (take n (drop k.out (run_text a k))) result old new) at call)
 
 -- at work a book's device is kept by what is under way
-module _ (b : Book) (state : DeviceState) where
-  pub kept_alone : (stage : Stage) (work : Work) → IsWorking stage → KeptBy stage false work b state → KeptIn (work_alone stage b.actions.items) (account b) state
+module _ (b : Book) (trail : List Asked) (state : DeviceState) where
+  pub kept_alone : (stage : Stage) (work : Work) → IsWorking stage → KeptBy stage false work trail b state → KeptIn (work_alone stage b.actions.items) (saying trail (account b)) state
   kept_alone Idle work works kept = absurd works
   kept_alone Close work works kept = kept
   kept_alone CloseSync work works kept = kept
@@ -124,7 +127,7 @@ module _ (b : Book) (state : DeviceState) where
   kept_alone GateSync work works kept = kept
   kept_alone Stopped work works kept = absurd works
 
-  pub kept_beside : (stage : Stage) (work : Work) → IsWorking stage → KeptBy stage true work b state → (k : Copy) × (run_text (account b) k ≡ run_in b) × KeptIn (work_beside stage work (at_out k b.out) b.actions.items) (account b) state
+  pub kept_beside : (stage : Stage) (work : Work) → IsWorking stage → KeptBy stage true work trail b state → (k : Copy) × CopiedIn b trail k × KeptIn (work_beside stage work (at_out k b.out) b.actions.items) (saying trail (account b)) state
   kept_beside Idle work works kept = absurd works
   kept_beside Close work works kept = kept
   kept_beside CloseSync work works kept = kept
@@ -136,6 +139,10 @@ module _ (b : Book) (state : DeviceState) where
   kept_beside GateSync work works kept = kept
   kept_beside Stopped work works kept = absurd works
 
+-- a copy of an account is one of it without a trail
+pub plain : {a : Account} {k : Copy} → IsCopy a k → IsCopy (saying [] a) k
+plain c = record { more = c.more; image = c.image; sizes = c.sizes; count = c.count; frames = c.frames; admitted = c.admitted; runs = c.runs; room = c.room; shut = c.shut; left = c.left }
+
 -- what the call makes of the device
 module _ (result : Result Unit DiskFault) (old new : DeviceState) (b : Book) (i : InOrder b) (works : IsWorking b.stage) where
   abbrev a : Account
@@ -144,21 +151,26 @@ module _ (result : Result Unit DiskFault) (old new : DeviceState) (b : Book) (i 
   abbrev acts : List Asked
   acts = b.actions.items
 
-  by_copying : (copying : Bool) → (copying ≡ false → MakesCall (work_alone b.stage acts) a (piece_of b) result old new)
-      → (copying ≡ true → (k : Copy) → run_text a k ≡ run_in b → MakesCall (work_beside b.stage b.work (at_out k b.out) acts) a (piece_of b) result old new)
-      → KeptBy b.stage copying b.work b old → PassesBy copying b.stage b.work b result old new
-  by_copying false without with_copy kept = advances result (work_alone b.stage acts) a (piece_of b) old new i.gate (kept_alone b old b.stage b.work works kept) (without refl)
-  by_copying true without with_copy kept =
-      let here = kept_beside b old b.stage b.work works kept in
-      (here.0, here.1, here.2, advances result (work_beside b.stage b.work (at_out here.0 b.out) acts) a (piece_of b) old new i.gate here.2 (with_copy refl here.0 here.1))
+  by_trail : (trail : List Asked) (copying : Bool) → (copying ≡ false → MakesCall (work_alone b.stage acts) (saying trail a) (piece_of b) result old new)
+      → (copying ≡ true → (k : Copy) → run_text a k ≡ run_in b → MakesCall (work_beside b.stage b.work (at_out k b.out) acts) (saying trail a) (piece_of b) result old new)
+      → KeptBy b.stage copying b.work trail b old → PassesBy copying b.stage b.work trail b result old new
+  by_trail trail false without with_copy kept = advances result (work_alone b.stage acts) (saying trail a) (piece_of b) old new i.gate (kept_alone b trail old b.stage b.work works kept) (without refl)
+  by_trail trail true without with_copy kept =
+      let here = kept_beside b trail old b.stage b.work works kept in
+      (here.0, here.1, here.2, advances result (work_beside b.stage b.work (at_out here.0 b.out) acts) (saying trail a) (piece_of b) old new i.gate here.2 (with_copy refl here.0 here.1.run))
+
+  by_copying : ((trail : List Asked) → b.copying ≡ false → MakesCall (work_alone b.stage acts) (saying trail a) (piece_of b) result old new)
+      → ((trail : List Asked) → b.copying ≡ true → (k : Copy) → run_text a k ≡ run_in b → MakesCall (work_beside b.stage b.work (at_out k b.out) acts) (saying trail a) (piece_of b) result old new)
+      → Keeps old b → PassesOn result old new b
+  by_copying without with_copy kept = (kept.0, by_trail kept.0 b.copying (without kept.0) (with_copy kept.0) kept.1)
 
   pub commit_passes : (text : List ℕ) → b.work ≡ Commit → text ≡ frame_body b.version b.epoch (b.stored.panel.count + 1) acts → StageCall b.layout.version b.stage b.gate text result old new → Keeps old b → PassesOn result old new b
   commit_passes text is same call kept =
       let here : StageCall b.layout.version b.stage b.gate (frame_body b.version b.epoch (b.stored.panel.count + 1) acts) result old new = subst (λ (t : List ℕ). StageCall b.layout.version b.stage b.gate t result old new) same call in
-      by_copying b.copying (λ off. alone_call result a acts (piece_of b) old new b.stage here)
-      (λ on k run.
+      by_copying (λ trail off. alone_call result (saying trail a) acts (piece_of b) old new b.stage here)
+      (λ trail on k run.
       let may : Possible b.stage true Commit = subst (λ (w : Work). Possible b.stage true w) is (subst (λ (o : Bool). Possible b.stage o b.work) on (possible b i works)) in
-      subst (λ (w : Work). MakesCall (work_beside b.stage w (at_out k b.out) acts) a (piece_of b) result old new) (sym is) (commit_call result a acts (piece_of b) old new (at_out k b.out) b.stage may here)) kept
+      subst (λ (w : Work). MakesCall (work_beside b.stage w (at_out k b.out) acts) (saying trail a) (piece_of b) result old new) (sym is) (commit_call result (saying trail a) acts (piece_of b) old new (at_out k b.out) b.stage may here)) kept
 
   never_without : b.work ≡ Checkpoint → b.copying ≡ false → ⊥
   never_without is off = never_alone b.stage (subst (λ (w : Work). Possible b.stage false w) is (subst (λ (o : Bool). Possible b.stage o b.work) off (possible b i works)))
@@ -166,28 +178,28 @@ module _ (result : Result Unit DiskFault) (old new : DeviceState) (b : Book) (i 
   pub checkpoint_passes : (at : ℕ) → b.work ≡ Checkpoint → (b.stage ≡ Body → ⊥) → (b.stage ≡ Retire → ⊥) → at ≡ other_at a → StageCall b.layout.version b.stage at [] result old new → Keeps old b → PassesOn result old new b
   checkpoint_passes at is pieces turned place call kept =
       let here : StageCall b.layout.version b.stage (other_at a) [] result old new = subst (λ (n : ℕ). StageCall b.layout.version b.stage n [] result old new) place call in
-      by_copying b.copying (λ off. absurd (never_without is off))
-      (λ on k run. subst (λ (w : Work). MakesCall (work_beside b.stage w (at_out k b.out) acts) a (piece_of b) result old new) (sym is) (checkpoint_call result a acts (piece_of b) old new (at_out k b.out) b.stage pieces turned here)) kept
+      by_copying (λ trail off. absurd (never_without is off))
+      (λ trail on k run. subst (λ (w : Work). MakesCall (work_beside b.stage w (at_out k b.out) acts) (saying trail a) (piece_of b) result old new) (sym is) (checkpoint_call result (saying trail a) acts (piece_of b) old new (at_out k b.out) b.stage pieces turned here)) kept
 
   pub retire_passes : (at : ℕ) → b.work ≡ Checkpoint → b.stage ≡ Retire → at ≡ half_at b.layout b.half → StageCall b.layout.version Retire at [] result old new → Keeps old b → PassesOn result old new b
   retire_passes at is turned place call kept =
       let here : StageCall b.layout.version Retire (half_at b.layout b.half) [] result old new = subst (λ (n : ℕ). StageCall b.layout.version Retire n [] result old new) place call in
-      by_copying b.copying (λ off. absurd (never_without is off))
-      (λ on k run.
-      subst (λ (w : Work). MakesCall (work_beside b.stage w (at_out k b.out) acts) a (piece_of b) result old new) (sym is)
-      (subst (λ (s : Stage). MakesCall (work_beside s Checkpoint (at_out k b.out) acts) a (piece_of b) result old new) (sym turned) (retire_call result a acts (piece_of b) old new (at_out k b.out) here))) kept
+      by_copying (λ trail off. absurd (never_without is off))
+      (λ trail on k run.
+      subst (λ (w : Work). MakesCall (work_beside b.stage w (at_out k b.out) acts) (saying trail a) (piece_of b) result old new) (sym is)
+      (subst (λ (s : Stage). MakesCall (work_beside s Checkpoint (at_out k b.out) acts) (saying trail a) (piece_of b) result old new) (sym turned) (retire_call result (saying trail a) acts (piece_of b) old new (at_out k b.out) here))) kept
 
   pub piece_passes : (at : ℕ) (text : List ℕ) → b.work ≡ Checkpoint → b.stage ≡ Body → at ≡ other_at a + b.out → text ≡ take (piece_of b) (drop b.out (run_in b)) → b.out + piece_of b ≤ length (run_in b)
       → Writes (at + 1) text result old new → Keeps old b → PassesOn result old new b
   piece_passes at text is body place same within call kept =
       let here : Writes (other_at a + b.out + 1) (take (piece_of b) (drop b.out (run_in b))) result old new =
       subst (λ (n : ℕ). Writes (n + 1) (take (piece_of b) (drop b.out (run_in b))) result old new) place (subst (λ (t : List ℕ). Writes (at + 1) t result old new) same call) in
-      by_copying b.copying (λ off. absurd (never_without is off))
-      (λ on k run.
+      by_copying (λ trail off. absurd (never_without is off))
+      (λ trail on k run.
       let there : Writes (other_at a + b.out + 1) (take (piece_of b) (drop b.out (run_text a k))) result old new = subst (λ (t : List ℕ). Writes (other_at a + b.out + 1) (take (piece_of b) (drop b.out t)) result old new) (sym run) here in
       let inside : b.out + piece_of b ≤ length (run_text a k) = subst (λ (t : List ℕ). b.out + piece_of b ≤ length t) (sym run) within in
-      subst (λ (w : Work). MakesCall (work_beside b.stage w (at_out k b.out) acts) a (piece_of b) result old new) (sym is)
-      (subst (λ (s : Stage). MakesCall (work_beside s Checkpoint (at_out k b.out) acts) a (piece_of b) result old new) (sym body) (piece_call result a acts (piece_of b) old new (at_out k b.out) inside there))) kept
+      subst (λ (w : Work). MakesCall (work_beside b.stage w (at_out k b.out) acts) (saying trail a) (piece_of b) result old new) (sym is)
+      (subst (λ (s : Stage). MakesCall (work_beside s Checkpoint (at_out k b.out) acts) (saying trail a) (piece_of b) result old new) (sym body) (piece_call result (saying trail a) acts (piece_of b) old new (at_out k b.out) inside there))) kept
 
 -- ---- what a crash leaves
 
@@ -210,44 +222,44 @@ next_is b stage is works = ap (λ (s : Stage). account_next_at s b.work b) is �
 -- at any moment of a call, by what is under way
 module _ (a : Account) (actions : List Asked) (x : List ℕ) where
   abbrev Before : List ℕ → Type 0
-  Before b = HoldsPlant a.epoch a.plant b
+  Before b = SaysIt a b
 
   abbrev Committed : List ℕ → Type 0
-  Committed b = HoldsIt (with_commit a actions) b
+  Committed b = SaysIt (with_commit a actions) b
 
   pub leaves_alone : (stage : Stage) → IsWorking stage → DuringIn (work_alone stage actions) a x → During Before Committed stage x
   leaves_alone Idle works d = absurd works
-  leaves_alone Close works d = ready_holds a x d
-  leaves_alone CloseSync works d = ready_holds a x d
-  leaves_alone Body works d = ready_holds a x d
-  leaves_alone BodySync works d = ready_holds a x d
-  leaves_alone Gate works d = ⊎_elim (λ r. inl (ready_holds a x r)) (λ r. inr (ready_holds (with_commit a actions) x r)) d
-  leaves_alone TurnSync works d = ⊎_elim (λ r. inl (ready_holds a x r)) (λ r. inr (ready_holds (with_commit a actions) x r)) d
-  leaves_alone Retire works d = ready_holds (with_commit a actions) x d
-  leaves_alone GateSync works d = ⊎_elim (λ r. inl (ready_holds a x r)) (λ r. inr (ready_holds (with_commit a actions) x r)) d
+  leaves_alone Close works d = ready_says a x d
+  leaves_alone CloseSync works d = ready_says a x d
+  leaves_alone Body works d = ready_says a x d
+  leaves_alone BodySync works d = ready_says a x d
+  leaves_alone Gate works d = ⊎_elim (λ r. inl (ready_says a x r)) (λ r. inr (ready_says (with_commit a actions) x r)) d
+  leaves_alone TurnSync works d = ⊎_elim (λ r. inl (ready_says a x r)) (λ r. inr (ready_says (with_commit a actions) x r)) d
+  leaves_alone Retire works d = ready_says (with_commit a actions) x d
+  leaves_alone GateSync works d = ⊎_elim (λ r. inl (ready_says a x r)) (λ r. inr (ready_says (with_commit a actions) x r)) d
   leaves_alone Stopped works d = absurd works
 
   pub leaves_commit : (k : Copy) (stage : Stage) → Possible stage true Commit → DuringIn (work_beside stage Commit k actions) a x → During Before Committed stage x
   leaves_commit k Idle may d = absurd may
   leaves_commit k Close may d = absurd may
   leaves_commit k CloseSync may d = absurd may
-  leaves_commit k Body may d = ready_holds a x d
-  leaves_commit k BodySync may d = ready_holds a x d
-  leaves_commit k Gate may d = ⊎_elim (λ r. inl (ready_holds a x r)) (λ r. inr (ready_holds (with_commit a actions) x r)) d
+  leaves_commit k Body may d = ready_says a x d
+  leaves_commit k BodySync may d = ready_says a x d
+  leaves_commit k Gate may d = ⊎_elim (λ r. inl (ready_says a x r)) (λ r. inr (ready_says (with_commit a actions) x r)) d
   leaves_commit k TurnSync may d = absurd may
   leaves_commit k Retire may d = absurd may
-  leaves_commit k GateSync may d = ⊎_elim (λ r. inl (ready_holds a x r)) (λ r. inr (ready_holds (with_commit a actions) x r)) d
+  leaves_commit k GateSync may d = ⊎_elim (λ r. inl (ready_says a x r)) (λ r. inr (ready_says (with_commit a actions) x r)) d
   leaves_commit k Stopped may d = absurd may
 
   module _ (k : Copy) (n : ℕ) where
     abbrev Turned : List ℕ → Type 0
-    Turned b = HoldsIt (turned_half a n) b
+    Turned b = SaysIt (saying (asked_in k.since) (turned_half a n)) b
 
     pub leaves_checkpoint : (stage : Stage) → Possible stage true Checkpoint → DuringIn (work_beside stage Checkpoint k actions) a x → During Before Turned stage x
     leaves_checkpoint Idle may d = absurd may
     leaves_checkpoint Close may d = d
     leaves_checkpoint CloseSync may d = d
-    leaves_checkpoint Body may d = ready_holds a x d
+    leaves_checkpoint Body may d = ready_says a x d
     leaves_checkpoint BodySync may d = d
     leaves_checkpoint Gate may d = d
     leaves_checkpoint TurnSync may d = d
@@ -276,24 +288,34 @@ pub run_size : (b : Book) → InOrder b → IsWorking b.stage → b.copying ≡ 
 run_size b i works on = length-take-le b.run b.buffer.items (run_within b i works on)
 
 module _ (b : Book) (i : InOrder b) (works : IsWorking b.stage) (result : Result Unit DiskFault) (old new : DeviceState) where
-  abbrev Stored : List ℕ → Type 0
-  Stored x = HoldsPlant b.epoch b.stored x
+  abbrev Left : List ℕ → Type 0
+  Left x = IsImage old x ⊎ IsImage new x
 
-  abbrev Then : Work → List ℕ → Type 0
-  Then work x = HoldsIt (done_by work b) x
+  abbrev Stored : List Asked → List ℕ → Type 0
+  Stored before x = SaysIt (saying before (account b)) x
 
-  moment_by : (x : List ℕ) (copying : Bool) (work : Work) → b.copying ≡ copying → Possible b.stage copying work → PassesBy copying b.stage work b result old new → IsImage old x ⊎ IsImage new x → During Stored (Then work) b.stage x
-  moment_by x false Commit is may p moment = leaves_alone (account b) b.actions.items x b.stage works (p.any_moment x moment)
-  moment_by x false Checkpoint is may p moment = absurd (never_alone b.stage may)
-  moment_by x true Commit is may p moment = leaves_commit (account b) b.actions.items x (at_out p.0 b.out) b.stage may (p.3.any_moment x moment)
-  moment_by x true Checkpoint is may p moment =
-      leaves_checkpoint (account b) b.actions.items x (at_out p.0 b.out) b.run b.stage may (p.3.any_moment x moment)
+  abbrev Then : Work → List Asked → List ℕ → Type 0
+  Then work after x = SaysIt (saying after (done_by work b)) x
 
-  during : (x : List ℕ) → PassesOn result old new b → IsImage old x ⊎ IsImage new x → During Stored (Then b.work) b.stage x
-  during x p moment = moment_by x b.copying b.work refl (possible b i works) p moment
+  -- the trail before, and after the work
+  abbrev Moments : Work → Type 0
+  Moments work = (before after : List Asked) × AddsTo work before b.actions.items after × ((x : List ℕ) → Left x → During (Stored before) (Then work after) b.stage x)
 
-  pub leaves_of : (x : List ℕ) → PassesOn result old new b → IsImage old x ⊎ IsImage new x → MayLeave b x
-  leaves_of x p moment = subst (λ (y : Account). During Stored (HoldsIt y) b.stage x) (sym (next_is b b.stage refl works)) (during x p moment)
+  moments_by : (trail : List Asked) (copying : Bool) (work : Work) → Possible b.stage copying work → PassesBy copying b.stage work trail b result old new → Moments work
+  moments_by trail false Commit may p = (trail, trail ++ b.actions.items, refl, λ x moment. leaves_alone (saying trail (account b)) b.actions.items x b.stage works (p.any_moment x moment))
+  moments_by trail false Checkpoint may p = absurd (never_alone b.stage may)
+  moments_by trail true Commit may p =
+      (trail, trail ++ b.actions.items, refl, λ x moment. leaves_commit (saying trail (account b)) b.actions.items x (at_out p.0 b.out) b.stage may (p.3.any_moment x moment))
+  moments_by trail true Checkpoint may p =
+      (trail, asked_in p.0.since, p.1.ends, λ x moment. leaves_checkpoint (saying trail (account b)) b.actions.items x (at_out p.0 b.out) b.run b.stage may (p.3.any_moment x moment))
+
+  during : PassesOn result old new b → Moments b.work
+  during p = moments_by p.0 b.copying b.work (possible b i works) p.1
+
+  pub leaves_saying : PassesOn result old new b → LeavesSaying b Left
+  leaves_saying p =
+      let m = during p in
+      record { before = m.0; after = m.1; adds = m.2; says = λ x moment. subst (λ (y : Account). During (Stored m.0) (SaysIt (saying m.1 y)) b.stage x) (sym (next_is b b.stage refl works)) (m.3 x moment) }
 
   stopped : (x : List ℕ) (w : Work) → HoldsIt (done_by w b) x → HoldsIt (done_by w (record b { stage = Stopped })) x
   stopped x Commit r = r
@@ -301,16 +323,18 @@ module _ (b : Book) (i : InOrder b) (works : IsWorking b.stage) (result : Result
 
   -- a call has failed
   pub stops : PassesOn result old new b → Keeps new (record b { stage = Stopped })
-  stops p = λ image left. ⊎_elim inl (λ r. inr (stopped image b.work r)) (either_by Stored (Then b.work) image b.stage (during image p (inr left)) works)
+  stops p =
+      let m = during p in
+      (m.0, λ image left. ⊎_elim (λ (r : Stored m.0 image). inl r.0) (λ (r : Then b.work m.1 image). inr (stopped image b.work r.0)) (either_by (Stored m.0) (Then b.work m.1) image b.stage (m.3 image (inr left)) works))
 
 -- ---- a call that was done
 
-pub rested : (b : Book) (a : Account) (state : DeviceState) → b.stage ≡ Idle → b.copying ≡ false → account b ≡ a → KeptIn Rest a state → Keeps state b
+pub rested : (b : Book) (a : Account) (state : DeviceState) → b.stage ≡ Idle → b.copying ≡ false → saying a.trail (account b) ≡ a → KeptIn Rest a state → Keeps state b
 rested b a state idle off is kept =
-    subst (λ (s : Stage). KeptBy s b.copying b.work b state) (sym idle) (subst (λ (o : Bool). KeptBy Idle o b.work b state) (sym off) (subst (λ (x : Account). KeptIn Rest x state) (sym is) kept))
+    (a.trail, subst (λ (s : Stage). KeptBy s b.copying b.work a.trail b state) (sym idle) (subst (λ (o : Bool). KeptBy Idle o b.work a.trail b state) (sym off) (subst (λ (x : Account). KeptIn Rest x state) (sym is) kept)))
 
 -- a commit's frame in the run of an open checkpoint
-grows_run : (old new : Book) (k : Copy) → IsCopy (account old) k → run_text (account old) k ≡ run_in old → length (run_in old) ≡ old.run → account new ≡ with_commit (account old) old.actions.items → GrowsBook old new
+grows_run : (old new : Book) (k : Copy) → IsCopy (account old) k → run_text (account old) k ≡ run_in old → length (run_in old) ≡ old.run → account new ≡ saying [] (with_commit (account old) old.actions.items) → GrowsBook old new
     → run_text (account new) (with_copied_frame k old.actions.items) ≡ run_in new
 grows_run old new k copy run long account_is g =
     (λ j. run_text (account_is j) (with_copied_frame k old.actions.items))
@@ -329,115 +353,124 @@ module _ (step : Progress) (old new : Book) (state : DeviceState) (i : InOrder o
   abbrev listed : List Asked
   listed = old.actions.items
 
-  as_book : (b : Book) (stage : Stage) (copying : Bool) (work : Work) → b.stage ≡ stage → b.copying ≡ copying → b.work ≡ work → KeptBy stage copying work b state → Keeps state b
-  as_book b stage copying work at on is kept =
-      subst (λ (s : Stage). KeptBy s b.copying b.work b state) (sym at) (subst (λ (o : Bool). KeptBy stage o b.work b state) (sym on) (subst (λ (w : Work). KeptBy stage copying w b state) (sym is) kept))
+  as_book : (trail : List Asked) (b : Book) (stage : Stage) (copying : Bool) (work : Work) → b.stage ≡ stage → b.copying ≡ copying → b.work ≡ work → KeptBy stage copying work trail b state → Keeps state b
+  as_book trail b stage copying work at on is kept =
+      (trail, subst (λ (s : Stage). KeptBy s b.copying b.work trail b state) (sym at) (subst (λ (o : Bool). KeptBy stage o b.work trail b state) (sym on) (subst (λ (w : Work). KeptBy stage copying w trail b state) (sym is) kept)))
 
   moved : (to : Book) → new ≡ to → Keeps state to → Keeps state new
   moved to same kept = subst (Keeps state) (sym same) kept
 
   -- without an open checkpoint
-  abbrev NextAlone : Stage → Type 0
-  NextAlone stage = KeptIn (next_work (work_alone stage listed) (account old) (piece_of old)) (next_account (work_alone stage listed) (account old)) state
+  abbrev NextAlone : List Asked → Stage → Type 0
+  NextAlone trail stage = KeptIn (next_work (work_alone stage listed) (saying trail (account old)) (piece_of old)) (next_account (work_alone stage listed) (saying trail (account old))) state
 
-  commit_closes : ClosesBook old new → old.copying ≡ false → KeptIn Rest (with_commit (account old) listed) state → Keeps state new
-  commit_closes c off kept = rested new (with_commit (account old) listed) state (c.stage ∙ ap rest_stage off) (c.copying ∙ off) c.account kept
+  commit_closes : (trail : List Asked) → ClosesBook old new → old.copying ≡ false → KeptIn Rest (with_commit (saying trail (account old)) listed) state → Keeps state new
+  commit_closes trail c off kept = rested new (with_commit (saying trail (account old)) listed) state (c.stage ∙ ap rest_stage off) (c.copying ∙ off) (ap (saying (trail ++ listed)) c.account) kept
 
-  goes_alone : (stage : Stage) → old.copying ≡ false → old.work ≡ Commit → Possible stage false Commit → IsBookAfter stage Commit step old new → NextAlone stage → Keeps state new
-  goes_alone Idle off is may goes kept = absurd may
-  goes_alone Close off is may goes kept = absurd may
-  goes_alone CloseSync off is may goes kept = absurd may
-  goes_alone Body off is may goes kept = moved (record old { stage = BodySync }) goes.1 (as_book (record old { stage = BodySync }) BodySync false Commit refl off is kept)
-  goes_alone BodySync off is may goes kept = moved (record old { stage = Gate }) goes.1 (as_book (record old { stage = Gate }) Gate false Commit refl off is kept)
-  goes_alone Gate off is may goes kept = moved (record old { stage = GateSync }) goes.1 (as_book (record old { stage = GateSync }) GateSync false Commit refl off is kept)
-  goes_alone TurnSync off is may goes kept = absurd may
-  goes_alone Retire off is may goes kept = absurd may
-  goes_alone GateSync off is may goes kept = commit_closes goes.1 off kept
-  goes_alone Stopped off is may goes kept = absurd may
+  goes_alone : (trail : List Asked) (stage : Stage) → old.copying ≡ false → old.work ≡ Commit → Possible stage false Commit → IsBookAfter stage Commit step old new → NextAlone trail stage → Keeps state new
+  goes_alone trail Idle off is may goes kept = absurd may
+  goes_alone trail Close off is may goes kept = absurd may
+  goes_alone trail CloseSync off is may goes kept = absurd may
+  goes_alone trail Body off is may goes kept = moved (record old { stage = BodySync }) goes.1 (as_book trail (record old { stage = BodySync }) BodySync false Commit refl off is kept)
+  goes_alone trail BodySync off is may goes kept = moved (record old { stage = Gate }) goes.1 (as_book trail (record old { stage = Gate }) Gate false Commit refl off is kept)
+  goes_alone trail Gate off is may goes kept = moved (record old { stage = GateSync }) goes.1 (as_book trail (record old { stage = GateSync }) GateSync false Commit refl off is kept)
+  goes_alone trail TurnSync off is may goes kept = absurd may
+  goes_alone trail Retire off is may goes kept = absurd may
+  goes_alone trail GateSync off is may goes kept = commit_closes trail goes.1 off kept
+  goes_alone trail Stopped off is may goes kept = absurd may
 
   -- with an open checkpoint
-  module _ (k : Copy) (run : run_text (account old) k ≡ run_in old) (on : old.copying ≡ true) where
+  module _ (trail : List Asked) (k : Copy) (copied : CopiedIn old trail k) (on : old.copying ≡ true) where
     abbrev here : Copy
     here = at_out k old.out
 
     abbrev Next : Stage → Work → Type 0
-    Next stage work = KeptIn (next_work (work_beside stage work here listed) (account old) (piece_of old)) (next_account (work_beside stage work here listed) (account old)) state
+    Next stage work = KeptIn (next_work (work_beside stage work here listed) (saying trail (account old)) (piece_of old)) (next_account (work_beside stage work here listed) (saying trail (account old))) state
 
-    to_stage : (stage : Stage) (work : Work) → IsWorking stage → old.work ≡ work → KeptBy stage true work old state → new ≡ record old { stage = stage } → Keeps state new
-    to_stage stage work goes_on is kept goes = moved (record old { stage = stage }) goes (as_book (record old { stage = stage }) stage true work refl on is (again stage goes_on kept))
+    to_stage : (stage : Stage) (work : Work) → IsWorking stage → old.work ≡ work → KeptBy stage true work trail old state → new ≡ record old { stage = stage } → Keeps state new
+    to_stage stage work goes_on is kept goes = moved (record old { stage = stage }) goes (as_book trail (record old { stage = stage }) stage true work refl on is (again stage goes_on kept))
       where
-        again : (s : Stage) → IsWorking s → KeptBy s true work old state → KeptBy s true work (record old { stage = stage }) state
+        again : (s : Stage) → IsWorking s → KeptBy s true work trail old state → KeptBy s true work trail (record old { stage = stage }) state
         again Idle never x = absurd never
-        again Close on x = x
-        again CloseSync on x = x
-        again Body on x = x
-        again BodySync on x = x
-        again Gate on x = x
-        again TurnSync on x = x
-        again Retire on x = x
-        again GateSync on x = x
+        again Close on x = (x.0, record { run = x.1.run; ends = x.1.ends }, x.2)
+        again CloseSync on x = (x.0, record { run = x.1.run; ends = x.1.ends }, x.2)
+        again Body on x = (x.0, record { run = x.1.run; ends = x.1.ends }, x.2)
+        again BodySync on x = (x.0, record { run = x.1.run; ends = x.1.ends }, x.2)
+        again Gate on x = (x.0, record { run = x.1.run; ends = x.1.ends }, x.2)
+        again TurnSync on x = (x.0, record { run = x.1.run; ends = x.1.ends }, x.2)
+        again Retire on x = (x.0, record { run = x.1.run; ends = x.1.ends }, x.2)
+        again GateSync on x = (x.0, record { run = x.1.run; ends = x.1.ends }, x.2)
         again Stopped never x = absurd never
 
-    resumes : ClosesBook old new → IsCopy (account old) here → KeptIn (Pause (with_copied_frame here listed)) (with_commit (account old) listed) state → Keeps state new
+    -- the frames since, and that of the commit
+    ends_grown : IsEnd (asked_in (with_copied_frame k listed).since) (trail ++ listed)
+    ends_grown =
+        let was = copied.ends in
+        (was.0, ap (λ (l : List Asked). l ++ listed) was.1 ∙ append_assoc was.0 (asked_in k.since) listed ∙ ap (λ (l : List Asked). was.0 ++ l) (sym (asked_pushed k.since (written listed))))
+
+    resumes : ClosesBook old new → IsCopy (account old) here → KeptIn (Pause (with_copied_frame here listed)) (with_commit (saying trail (account old)) listed) state → Keeps state new
     resumes c copy kept =
-        as_book new Body true Checkpoint (c.stage ∙ ap rest_stage on) (c.copying ∙ on) (c.work ∙ ap rest_work on) (
+        let now : saying (trail ++ listed) (account new) ≡ with_commit (saying trail (account old)) listed = ap (saying (trail ++ listed)) c.account in
+        as_book (trail ++ listed) new Body true Checkpoint (c.stage ∙ ap rest_stage on) (c.copying ∙ on) (c.work ∙ ap rest_work on) (
           with_copied_frame k listed,
-          grows_run old new here copy run (run_size old i works on) c.account (subst (λ (o : Bool). GrowsWhere o old new) on c.grows),
-          subst (λ (n : ℕ). KeptIn (Pause (at_out (with_copied_frame k listed) n)) (account new) state) (sym c.out) (subst (λ (y : Account). KeptIn (Pause (with_copied_frame here listed)) y state) (sym c.account) kept),
+          record { run = grows_run old new here copy copied.run (run_size old i works on) c.account (subst (λ (o : Bool). GrowsWhere o old new) on c.grows); ends = ends_grown },
+          subst (λ (n : ℕ). KeptIn (Pause (at_out (with_copied_frame k listed) n)) (saying (trail ++ listed) (account new)) state) (sym c.out) (subst (λ (y : Account). KeptIn (Pause (with_copied_frame here listed)) y state) (sym now) kept),
         )
 
-    goes_commit : (was : DeviceState) (stage : Stage) → old.work ≡ Commit → Possible stage true Commit → IsBookAfter stage Commit step old new → KeptIn (work_beside stage Commit here listed) (account old) was → Next stage Commit → Keeps state new
+    goes_commit : (was : DeviceState) (stage : Stage) → old.work ≡ Commit → Possible stage true Commit → IsBookAfter stage Commit step old new → KeptIn (work_beside stage Commit here listed) (saying trail (account old)) was → Next stage Commit → Keeps state new
     goes_commit was Idle is may goes before kept = absurd may
     goes_commit was Close is may goes before kept = absurd may
     goes_commit was CloseSync is may goes before kept = absurd may
-    goes_commit was Body is may goes before kept = to_stage BodySync Commit tt is (k, run, kept) goes.1
-    goes_commit was BodySync is may goes before kept = to_stage Gate Commit tt is (k, run, kept) goes.1
-    goes_commit was Gate is may goes before kept = to_stage GateSync Commit tt is (k, run, kept) goes.1
+    goes_commit was Body is may goes before kept = to_stage BodySync Commit tt is (k, copied, kept) goes.1
+    goes_commit was BodySync is may goes before kept = to_stage Gate Commit tt is (k, copied, kept) goes.1
+    goes_commit was Gate is may goes before kept = to_stage GateSync Commit tt is (k, copied, kept) goes.1
     goes_commit was TurnSync is may goes before kept = absurd may
     goes_commit was Retire is may goes before kept = absurd may
-    goes_commit was GateSync is may goes before kept = resumes goes.1 before.1.0 kept
+    goes_commit was GateSync is may goes before kept = resumes goes.1 (plain before.1.0) kept
     goes_commit was Stopped is may goes before kept = absurd may
 
     -- all of the run went out, or another piece is next
     abbrev Placed : Bool → Type 0
-    Placed last = KeptIn (if last then End here BodySync else Pause (with_sent_bytes here (piece_of old))) (account old) state
+    Placed last = KeptIn (if last then End here BodySync else Pause (with_sent_bytes here (piece_of old))) (saying trail (account old)) state
 
     by_place : (last : Bool) → old.work ≡ Checkpoint → (old.out + piece_of old == old.run) ≡ last → Placed last → Keeps state (sent_by (piece_of old) old)
-    by_place true is at x = as_book (sent_by (piece_of old) old) BodySync true Checkpoint (ap (λ (l : Bool). if l then BodySync else Body) at) on is (k, run, x)
-    by_place false is at x = as_book (sent_by (piece_of old) old) Body true Checkpoint (ap (λ (l : Bool). if l then BodySync else Body) at) on is (k, run, x)
+    by_place true is at x = as_book trail (sent_by (piece_of old) old) BodySync true Checkpoint (ap (λ (l : Bool). if l then BodySync else Body) at) on is (k, record { run = copied.run; ends = copied.ends }, x)
+    by_place false is at x = as_book trail (sent_by (piece_of old) old) Body true Checkpoint (ap (λ (l : Bool). if l then BodySync else Body) at) on is (k, record { run = copied.run; ends = copied.ends }, x)
 
     sends : old.work ≡ Checkpoint → new ≡ sent_by (piece_of old) old → Next Body Checkpoint → Keeps state new
     sends is goes kept =
-        moved (sent_by (piece_of old) old) goes (by_place (old.out + piece_of old == old.run) is refl (subst (λ (n : ℕ). Placed (old.out + piece_of old == n)) (ap length run ∙ run_size old i works on) kept))
+        moved (sent_by (piece_of old) old) goes (by_place (old.out + piece_of old == old.run) is refl (subst (λ (n : ℕ). Placed (old.out + piece_of old == n)) (ap length copied.run ∙ run_size old i works on) kept))
 
-    turned_rest : TurnsBook old new → KeptIn Rest (ended_by (account old) here) state → Keeps state new
-    turned_rest t kept = rested new (ended_by (account old) here) state t.stage t.copying (t.account ∙ sym (turned_is (account old) here old.run (ap length run ∙ run_size old i works on))) kept
+    turned_rest : TurnsBook old new → KeptIn Rest (ended_by (saying trail (account old)) here) state → Keeps state new
+    turned_rest t kept =
+        rested new (ended_by (saying trail (account old)) here) state t.stage t.copying
+        (ap (saying (asked_in k.since)) t.account ∙ sym (turned_is (saying trail (account old)) here old.run (ap length copied.run ∙ run_size old i works on))) kept
 
-    by_turn : (b : Bool) → old.work ≡ Checkpoint → new ≡ record old { stage = turn_stage b } → KeptIn (End here (turn_stage b)) (account old) state → Keeps state new
-    by_turn true is goes kept = to_stage TurnSync Checkpoint tt is (k, run, kept) goes
-    by_turn false is goes kept = to_stage GateSync Checkpoint tt is (k, run, kept) goes
+    by_turn : (b : Bool) → old.work ≡ Checkpoint → new ≡ record old { stage = turn_stage b } → KeptIn (End here (turn_stage b)) (saying trail (account old)) state → Keeps state new
+    by_turn true is goes kept = to_stage TurnSync Checkpoint tt is (k, copied, kept) goes
+    by_turn false is goes kept = to_stage GateSync Checkpoint tt is (k, copied, kept) goes
 
     goes_checkpoint : (stage : Stage) → old.work ≡ Checkpoint → Possible stage true Checkpoint → IsBookAfter stage Checkpoint step old new → Next stage Checkpoint → Keeps state new
     goes_checkpoint Idle is may goes kept = absurd may
-    goes_checkpoint Close is may goes kept = to_stage CloseSync Checkpoint tt is (k, run, kept) goes.1
+    goes_checkpoint Close is may goes kept = to_stage CloseSync Checkpoint tt is (k, copied, kept) goes.1
     goes_checkpoint CloseSync is may goes kept =
-        moved (record old { stage = Body; other_open = false }) goes.1 (as_book (record old { stage = Body; other_open = false }) Body true Checkpoint refl on is (k, run, kept))
+        moved (record old { stage = Body; other_open = false }) goes.1 (as_book trail (record old { stage = Body; other_open = false }) Body true Checkpoint refl on is (k, record { run = copied.run; ends = copied.ends }, kept))
     goes_checkpoint Body is may goes kept = sends is goes.1 kept
-    goes_checkpoint BodySync is may goes kept = to_stage Gate Checkpoint tt is (k, run, kept) goes.1
+    goes_checkpoint BodySync is may goes kept = to_stage Gate Checkpoint tt is (k, copied, kept) goes.1
     goes_checkpoint Gate is may goes kept = by_turn (is_summed old.version) is goes.1 kept
-    goes_checkpoint TurnSync is may goes kept = to_stage Retire Checkpoint tt is (k, run, kept) goes.1
-    goes_checkpoint Retire is may goes kept = to_stage GateSync Checkpoint tt is (k, run, kept) goes.1
+    goes_checkpoint TurnSync is may goes kept = to_stage Retire Checkpoint tt is (k, copied, kept) goes.1
+    goes_checkpoint Retire is may goes kept = to_stage GateSync Checkpoint tt is (k, copied, kept) goes.1
     goes_checkpoint GateSync is may goes kept = turned_rest goes.1 kept
     goes_checkpoint Stopped is may goes kept = absurd may
 
   pub goes_on : (was : DeviceState) (result : Result Unit DiskFault) → result ≡ Ok tt → IsBookAfter old.stage old.work step old new → PassesOn result was state old → Keeps state new
-  goes_on was result done goes p = by_copying old.copying old.work refl refl (possible old i works) goes p
+  goes_on was result done goes p = by_copying p.0 old.copying old.work refl refl (possible old i works) goes p.1
     where
-      by_copying : (copying : Bool) (work : Work) → old.copying ≡ copying → old.work ≡ work → Possible old.stage copying work → IsBookAfter old.stage work step old new → PassesBy copying old.stage work old result was state → Keeps state new
-      by_copying false Commit on is may g p = goes_alone old.stage on is may g (p.kept done)
-      by_copying false Checkpoint on is may g p = absurd (never_alone old.stage may)
-      by_copying true Commit on is may g p = goes_commit p.0 p.1 on was old.stage is may g p.2 (p.3.kept done)
-      by_copying true Checkpoint on is may g p = goes_checkpoint p.0 p.1 on old.stage is may g (p.3.kept done)
+      by_copying : (trail : List Asked) (copying : Bool) (work : Work) → old.copying ≡ copying → old.work ≡ work → Possible old.stage copying work → IsBookAfter old.stage work step old new → PassesBy copying old.stage work trail old result was state → Keeps state new
+      by_copying trail false Commit on is may g p = goes_alone trail old.stage on is may g (p.kept done)
+      by_copying trail false Checkpoint on is may g p = absurd (never_alone old.stage may)
+      by_copying trail true Commit on is may g p = goes_commit trail p.0 p.1 on was old.stage is may g p.2 (p.3.kept done)
+      by_copying trail true Checkpoint on is may g p = goes_checkpoint trail p.0 p.1 on old.stage is may g (p.3.kept done)
 
 -- a call that was done isn't reported as failed
 abbrev IsFailed : Progress → Type 0

@@ -1,5 +1,5 @@
 -- What an opened device is.
-use Rattle.std.proofs.Common.{◌≡◌, inl, inr, ⊎_elim, ℕ, ◌^◌, ◌<◌, ◌≤◌, List, length, Result, Ok, Err, sym, ◌∙◌, ap, subst, arith}
+use Rattle.std.proofs.Common.{[], ◌≡◌, inl, inr, ⊎_elim, ℕ, ◌^◌, ◌<◌, ◌≤◌, List, length, Result, Ok, Err, sym, ◌∙◌, ap, subst, arith}
 use Rattle.std.specs.Prelude.{OnOk, IfOk}
 use Rattle.alm_disk.specs.Device.{AreBytes}
 use Rattle.alm_checkpoint.specs.declared.layout.Layout.{Layout}
@@ -23,6 +23,9 @@ use Rattle.alm_keeper.specs.declared.book.Book.{Book}
 use Rattle.alm_keeper.specs.Stand.{Account, Ready}
 use Rattle.alm_keeper.specs.Keeping.{account, FitsDevice}
 use Rattle.alm_keeper.specs.Opening.{IsReadOf, OpensAs, AreMarks, Restores}
+use Rattle.alm_codec.specs.declared.asked.Asked.{Asked}
+use Rattle.alm_keeper.specs.Stand.{saying}
+use Rattle.alm_keeper.specs.Trail.{asked_in}
 
 -- the header is damaged
 header_fault : (b : List ℕ) (fault : DeviceFault) → layout_in b ≡ Err fault → HasFault b fault
@@ -55,22 +58,25 @@ module _ (b : List ℕ) (l : Layout) (m : Marks) (bytes : AreBytes b) (header : 
       ∙ ap (λ (r : Result (Half × HalfHead) DeviceFault). r >>= λ x. Ok (opened_half l x.0 x.1 b)) marks.0
 
   ready : (book : Book) → RestoredAs (opened_half l m.half m.head b) book.stored book.gate
-      → account book ≡ record { layout = l; half = m.half; other_open = m.other_open; version = m.head.version; epoch = m.head.epoch; gate = book.gate; plant = book.stored } → Ready (account book) b
+      → account book ≡ record { layout = l; half = m.half; other_open = m.other_open; version = m.head.version; epoch = m.head.epoch; gate = book.gate; plant = book.stored; trail = [] } → (trail : List Asked) × Ready (saying trail (account book)) b
   ready book h is =
       let c = cut_at b l m.half m.head h.base book.stored h.left bytes header marks.0 h.spells h.folds in
       let gate : book.gate ≡ length (front c.cut) = omega (arith, h.gate_is, c.gate_there) in
       let beside : m.other_open ≡ is_half_open (layout_byte c.cut.other 0) =
       marks.1 ∙ ap gate_in (head_is l b (other m.half)) ∙ c.of_other in
-      record {
-        cut = c.cut;
-        is = is ∙ (λ i. record { layout = sym c.of_layout i; half = sym c.of_half i; other_open = beside i; version = sym c.of_version i; epoch = sym c.of_epoch i; gate = gate i; plant = book.stored });
-        stores = c.stores;
-        gate = c.gate;
-        closed = c.shut;
-        tail = c.tail;
-        reaches = c.reaches;
-        text = c.is;
-      }
+      let trail : List Asked = asked_in c.cut.frames in (
+        trail,
+        record {
+          cut = c.cut;
+          is = ap (saying trail) is ∙ (λ i. record { layout = sym c.of_layout i; half = sym c.of_half i; other_open = beside i; version = sym c.of_version i; epoch = sym c.of_epoch i; gate = gate i; plant = book.stored; trail = trail });
+          stores = c.stores;
+          gate = c.gate;
+          closed = c.shut;
+          tail = c.tail;
+          reaches = c.reaches;
+          text = c.is;
+        },
+      )
 
   unrestored_fault : (fault : DeviceFault) → IsUnrestored (opened_half l m.half m.head b) (unrestored.Damaged fault) → HasFault b fault
   unrestored_fault fault u = ⊎_elim

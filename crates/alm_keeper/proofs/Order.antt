@@ -1,5 +1,5 @@
 -- What a book keeps as work begins and ends.
-use Rattle.std.proofs.Common.{vec_capacity, nat_le, take, ◌-◌, ◌≡◌, ℕ, ◌+◌, ◌*◌, ◌^◌, ◌≤◌, ◌<◌, Bool, true, false, List, length, refl, sym, ◌∙◌, ap, subst, arith, ◌∷◌, ◌++◌, true≢false}
+use Rattle.std.proofs.Common.{[], vec_capacity, nat_le, take, ◌-◌, ◌≡◌, ℕ, ◌+◌, ◌*◌, ◌^◌, ◌≤◌, ◌<◌, Bool, true, false, List, length, refl, sym, ◌∙◌, ap, subst, arith, ◌∷◌, ◌++◌, true≢false}
 use Rattle.std.proofs.lemmas.List.{take-take}
 use Rattle.std.proofs.lemmas.Bool.{and_parts, leb-true}
 use Rattle.alm_keeper.specs.Stages.{IsWorking, first_stage, rest_stage, rest_work, phase_of}
@@ -26,6 +26,7 @@ use Rattle.alm_checkpoint.specs.Cut.{IsLayout}
 use Rattle.alm_store.specs.declared.phase.Phase.TheVariants as at
 use Rattle.alm_keeper.specs.Stand.{Account, end_of_half, with_commit}
 use Rattle.alm_keeper.specs.Keeping.{account, run_in, Committing, DoesWork, Does, OpenedBook, HasSent, IsCopying, GrowsBook, GrowsWhere, ClosesBook, InOrder}
+use Rattle.alm_keeper.specs.Stand.{saying}
 
 -- what may be under way: only a checkpoint closes a gate, and a checkpoint is open as long as it is under way
 abbrev pub Possible : Stage → Bool → Work → Type 0
@@ -309,7 +310,7 @@ grows_within b i last is on =
 
 -- what storing a commit leaves
 abbrev pub Stores : (old mid : Book) → Type 0
-Stores old mid = (account mid ≡ with_commit (account old) old.actions.items) × (mid ≡ record old { gate = mid.gate; stored = mid.stored; written = 0 })
+Stores old mid = (account mid ≡ saying [] (with_commit (account old) old.actions.items)) × (mid ≡ record old { gate = mid.gate; stored = mid.stored; written = 0 })
 
 pub closed_by : (old mid : Book) → old.work ≡ Commit → old.copying ≡ false → Stores old mid → ClosesBook old (record mid { stage = Idle })
 closed_by old mid is off s = record {

@@ -10,14 +10,14 @@ use Rattle.alm_disk.specs.Device.{IsImage as IsLeft}
 use Rattle.alm_checkpoint.specs.Layouts.{half_len, part}
 use Rattle.alm_codec.specs.Versions.{closed_gate, newer}
 use Rattle.alm_codec.specs.declared.version.Version.{Version}
-use Rattle.alm_keeper.specs.Stand.{HoldsIt, Ready, Account, other_at, end_of_half, TakesAsked, with_commit}
+use Rattle.alm_keeper.specs.Stand.{SaysIt, Ready, Account, other_at, end_of_half, TakesAsked, with_commit}
 use Rattle.alm_keeper.specs.Resting.{or_within, with_gate, Kept}
 use Rattle.alm_keeper.specs.Stages.{During, next_stage, turn_stage}
 use Rattle.alm_keeper.specs.declared.stage.Stage.{Stage}
 use Rattle.alm_keeper.specs.declared.stage.Stage.TheVariants.{Close, CloseSync, Body, BodySync, Gate, TurnSync, Retire, GateSync, Idle, Stopped}
 use Rattle.alm_keeper.specs.Piecewise.{Copy, open_text, run_text, IsCopy, is_sent, WrotePart, Paused, turned_by, ended_by, with_sent_bytes}
 use Rattle.alm_keeper.specs.Phases.{with_other_shut, Rested, UnderWay, Rest, Shut, ShutSync, Pause, Frame, End, Commits, out_of, Beside, KeptTurn, KeptLast, KeptEnd, KeptIn, StageCall, MakesCall, DuringIn, without_pause, next_work, next_account, WorkAdvances}
-use Rattle.alm_keeper.proofs.Commit.{ready_holds, body_long}
+use Rattle.alm_keeper.proofs.Commit.{ready_says, body_long}
 use Rattle.alm_keeper.proofs.Resting.{body_passes, body_sync_passes, gate_passes, gate_sync_passes}
 use Rattle.alm_keeper.proofs.Sending.{piece_images, piece_goes, ready_long, run_fits}
 use Rattle.alm_keeper.proofs.Ending.{ends}
@@ -176,27 +176,27 @@ module _ (E : Type 0) (a : Account) (k : Copy) (n : ℕ) (old new : DeviceState)
 
 module _ {E : Type 0} (result : Result Unit E) (a : Account) (k : Copy) (n : ℕ) (old new : DeviceState) (b : List ℕ) (moment : IsLeft old b ⊎ IsLeft new b) where
   abbrev Either : Type 0
-  Either = HoldsIt a b ⊎ HoldsIt (turned_by a k) b
+  Either = SaysIt a b ⊎ SaysIt (turned_by a k) b
 
   -- at a stage of the write after the gate, and of the gate's
   turn_moments : (step : Stage) → StageCall a.layout.version step (other_at a) (run_text a k) result old new → KeptTurn k step a old → During (Ready a) (Ready (turned_by a k)) step b
   turn_moments step call kept = moments result (λ place. false) (Ready a) (Ready (turned_by a k)) old new a.layout.version (other_at a) (run_text a k) step call kept b moment
 
   either : Ready a b ⊎ Ready (turned_by a k) b → Either
-  either = ⊎_elim (λ r. inl (ready_holds a b r)) (λ r. inr (ready_holds (turned_by a k) b r))
+  either = ⊎_elim (λ r. inl (ready_says a b r)) (λ r. inr (ready_says (turned_by a k) b r))
 
   last_moments : (summed : Bool) → Syncs result old new → KeptLast summed k a old → Either
   last_moments true call kept = inr (⊎_elim (kept.images b) (sync_images result (turned_by a k) old new kept call b) moment)
   last_moments false call kept = either (turn_moments GateSync call kept)
 
-  end_moments : (step : Stage) → MakesCall (End k step) a n result old new → KeptIn (End k step) a old → During (HoldsIt a) (HoldsIt (turned_by a k)) step b
+  end_moments : (step : Stage) → MakesCall (End k step) a n result old new → KeptIn (End k step) a old → During (SaysIt a) (SaysIt (turned_by a k)) step b
   end_moments Close call kept = absurd kept.stands
   end_moments CloseSync call kept = absurd kept.stands
-  end_moments Body call kept = ready_holds a b (turn_moments Body call kept)
-  end_moments BodySync call kept = ready_holds a b (turn_moments BodySync call kept)
+  end_moments Body call kept = ready_says a b (turn_moments Body call kept)
+  end_moments BodySync call kept = ready_says a b (turn_moments BodySync call kept)
   end_moments Gate call kept = either (turn_moments Gate call kept)
   end_moments TurnSync call kept = either (turn_moments GateSync call kept.1)
-  end_moments Retire call kept = ⊎_elim (λ image. ready_holds (turned_by a k) b (kept.1.images b image)) (closes_images result (turned_by a k) old new refl kept.1 call b) moment
+  end_moments Retire call kept = ⊎_elim (λ image. ready_says (turned_by a k) b (kept.1.images b image)) (closes_images result (turned_by a k) old new refl kept.1 call b) moment
   end_moments GateSync call kept = last_moments (is_summed a.version) call kept
   end_moments Idle call kept = absurd call
   end_moments Stopped call kept = absurd call
@@ -213,7 +213,7 @@ phase_goes E (End k step) a n old new gate kept call = end_goes E a k n old new 
 -- done or failed
 pub phase_moments : {E : Type 0} (result : Result Unit E) (phase : UnderWay) (a : Account) (n : ℕ) (old new : DeviceState) → a.gate + 1 ≤ end_of_half a → KeptIn phase a old → MakesCall phase a n result old new → (b : List ℕ) → IsLeft old b ⊎ IsLeft new b → DuringIn phase a b
 phase_moments result Rest a n old new gate kept call b moment = absurd call
-phase_moments result (Shut k) a n old new gate kept call b moment = ⊎_elim (λ image. ready_holds a b (kept.3.images b image)) (closes_images result a old new kept.0 kept.3 call b) moment
+phase_moments result (Shut k) a n old new gate kept call b moment = ⊎_elim (λ image. ready_says a b (kept.3.images b image)) (closes_images result a old new kept.0 kept.3 call b) moment
 phase_moments result (ShutSync k) a n old new gate kept call b moment = ⊎_elim (kept.2.images b) (sync_images result a old new kept.2 call b) moment
 phase_moments result (Pause k) a n old new gate kept call b moment = ⊎_elim (kept.1.images b) (piece_images a k n old new kept.0 gate call.0 kept.1 result call.1 b) moment
 phase_moments result (Frame other step actions) a n old new gate kept call b moment =

@@ -15,6 +15,7 @@ use Rattle.alm_keeper.specs.Piecewise.{is_sent}
 use Rattle.alm_checkpoint.proofs.Grown.{gate_at}
 use Rattle.alm_checkpoint.proofs.Turned.{shut_beside, stores_other, beside}
 use Rattle.alm_keeper.proofs.Sides.{side_long, by_gate}
+use Rattle.alm_keeper.specs.Trail.{asked_in}
 
 -- ---- the other half among the bytes
 
@@ -38,7 +39,7 @@ module _ (c : Cut) (plant : Condensed) (gate : ℕ) (tail : List ℕ) (stores : 
       let place : length (front c) ≡ length (front (with_other c o)) = omega (arith, gate_at c plant (gate ∷ tail) stores reaches, gate_at (with_other c o) plant (gate ∷ tail) kept reaches) in
       record {
         cut = with_other c o;
-        is = λ i. record { layout = c.layout; half = c.half; other_open = (old ∙ sym shut) i; version = c.version; epoch = c.epoch; gate = place i; plant = plant };
+        is = λ i. record { layout = c.layout; half = c.half; other_open = (old ∙ sym shut) i; version = c.version; epoch = c.epoch; gate = place i; plant = plant; trail = asked_in c.frames };
         stores = kept;
         gate = gate;
         closed = closed;

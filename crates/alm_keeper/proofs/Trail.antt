@@ -1,23 +1,20 @@
--- A commit adds its actions to what a device says.
-use Rattle.std.proofs.Common.{◌≡◌, ℕ, ◌+◌, ◌*◌, List, [], ◌∷◌, ◌++◌, length, take, drop, refl, sym, ◌∙◌, ap, append_assoc, length-append}
-use Rattle.std.proofs.lemmas.List.{append-nil}
+-- A commit adds its actions to what a device says, and a closed gate takes them away.
+use Rattle.std.proofs.Common.{◌≡◌, ℕ, ◌+◌, ◌*◌, List, [], ◌∷◌, ◌++◌, length, take, drop, refl, sym, ◌∙◌, ap, append_assoc, length-append, Bool, ◌==◌, not, true, false, eqb-true, true≢false, arith}
 use Rattle.alm_model.specs.Rules.{AreAdmitted}
 use Rattle.alm_model.specs.Step.{run}
 use Rattle.alm_codec.specs.declared.asked.Asked.{Asked}
 use Rattle.alm_codec.specs.Frames.{IsFrame, asked_actions, frame_body}
-use Rattle.alm_segment.specs.Texts.{Frame, written}
-use Rattle.alm_codec.specs.Versions.{closed_gate}
+use Rattle.alm_segment.specs.Texts.{written}
+use Rattle.alm_codec.specs.Versions.{closed_gate, is_open}
 use Rattle.alm_checkpoint.specs.Cut.{back, front}
 use Rattle.alm_keeper.specs.Formatting.{overwritten}
 use Rattle.alm_keeper.specs.Stand.{TakesAsked, account_of}
-use Rattle.alm_keeper.specs.Trail.{Says, asked_in}
+use Rattle.alm_keeper.specs.Trail.{Says}
 use Rattle.alm_keeper.proofs.Commit as commit
 use Rattle.alm_keeper.proofs.Gates.{closed_shut, written_open}
 use Rattle.alm_keeper.proofs.Fresh.{put_in}
-
-asked_pushed : (frames : List Frame) (asked : List Asked) → asked_in (frames ++ written asked ∷ []) ≡ asked_in frames ++ asked
-asked_pushed [] asked = append-nil asked
-asked_pushed (f ∷ frames) asked = ap (λ (l : List Asked). f.asked ++ l) (asked_pushed frames asked) ∙ sym (append_assoc f.asked (asked_in frames) asked)
+use Rattle.alm_codec.specs.declared.version.Version.{Version}
+use Rattle.alm_codec.specs.declared.version.Version.TheVariants.{V03}
 
 module _ (bytes : List ℕ) (before asked : List Asked) (s : Says before bytes) (frame : IsFrame s.cut.version s.cut.epoch (s.plant.panel.count + 1) asked) (admitted : AreAdmitted s.plant (asked_actions asked)) (takes : TakesAsked (account_of s.cut s.plant) asked) where
   abbrev n : ℕ
@@ -40,6 +37,9 @@ module _ (bytes : List ℕ) (before asked : List Asked) (s : Says before bytes) 
 
   join : (g : ℕ) (f r l : List ℕ) → (f ++ g ∷ []) ++ r ++ l ≡ f ++ (g ∷ []) ++ (r ++ l)
   join g f r l = simp append_assoc
+
+  behind : (g : ℕ) (f r l b : List ℕ) → f ++ (g ∷ []) ++ (r ++ (l ++ b)) ≡ f ++ (g ∷ (r ++ l)) ++ b
+  behind g f r l b = simp append_assoc
 
   again : (g : ℕ) (f r l : List ℕ) → f ++ (g ∷ []) ++ (r ++ l) ≡ f ++ (g ∷ r) ++ l
   again g f r l = simp append_assoc
@@ -66,5 +66,41 @@ module _ (bytes : List ℕ) (before asked : List Asked) (s : Says before bytes) 
         tail = drop n s.tail;
         reaches = commit.grown_reaches s.cut s.plant asked s.gate s.tail s.stores frame admitted s.closed s.reaches takes 165 opened;
         text = two ∙ commit.grown_text s.cut s.plant asked s.gate s.tail s.stores frame admitted s.closed s.reaches takes 165 opened;
-        said = ap (λ (l : List Asked). l ++ asked) s.said ∙ sym (asked_pushed s.cut.frames asked);
+        said = ap (λ (l : List Asked). l ++ asked) s.said ∙ sym (commit.asked_pushed s.cut.frames (written asked));
       }
+
+  -- with its gate closed the frame is not there
+  module _ (g : ℕ) (closed : is_open s.cut.version g ≡ false) where
+    three : overwritten at (g ∷ []) (overwritten at (165 ∷ []) (overwritten (at + 1) body bytes)) ≡ front s.cut ++ (g ∷ []) ++ (body ++ left)
+    three = put_in at (g ∷ []) (front s.cut) (165 ∷ []) (body ++ left) (overwritten at (165 ∷ []) (overwritten (at + 1) body bytes)) (front s.cut ++ (g ∷ []) ++ (body ++ left)) (two ∙ sym (again 165 (front s.cut) body left)) refl refl refl
+
+    pub closed_says : Says before (overwritten at (g ∷ []) (overwritten at (165 ∷ []) (overwritten (at + 1) body bytes)))
+    closed_says = record {
+      cut = s.cut;
+      plant = s.plant;
+      stores = s.stores;
+      gate = g;
+      closed = closed;
+      tail = body ++ drop n s.tail;
+      reaches = omega (
+        arith,
+        s.reaches,
+        length-append body (drop n s.tail),
+        commit.body_long s.cut.version s.cut.epoch (s.plant.panel.count + 1) asked,
+        commit.left_long s.cut s.plant asked s.gate s.tail s.stores frame admitted s.closed s.reaches takes,
+      );
+      text = three ∙ behind g (front s.cut) body (drop n s.tail) (back s.cut);
+      said = s.said;
+    }
+
+  -- as it was before the gate was opened
+  pub same_gate : (g : ℕ) → g ≡ s.gate → overwritten at (g ∷ []) (overwritten at (165 ∷ []) (overwritten (at + 1) body bytes)) ≡ overwritten (at + 1) body bytes
+  same_gate g is = three g (ap (is_open s.cut.version) is ∙ s.closed) ∙ ap (λ (h : ℕ). front s.cut ++ (h ∷ []) ++ (body ++ left)) is ∙ sym one
+
+-- in version 03 one value closes a gate
+pub one_closed : (version : Version) (g : ℕ) → version ≡ V03 → is_open version g ≡ false → 90 ≡ g
+one_closed version g is closed = sym (by_value (g == 90) refl (ap (λ (v : Version). is_open v g) (sym is) ∙ closed))
+  where
+    by_value : (b : Bool) → (g == 90) ≡ b → not b ≡ false → g ≡ 90
+    by_value true e shut = eqb-true g 90 e
+    by_value false e shut = absurd (true≢false shut)

@@ -27,12 +27,14 @@ use Rattle.alm_store.specs.declared.progress.Progress.TheVariants.{More, Done, F
 use Rattle.alm_keeper.specs.Piecewise.{Copy, run_text}
 use Rattle.alm_keeper.specs.Phases.{UnderWay, Rest, Shut, ShutSync, Pause, Frame, End, KeptIn}
 use Rattle.alm_keeper.specs.Phases.{WorkAdvances as AdvancesOn}
-use Rattle.alm_keeper.specs.Stand.{HoldsPlant, HoldsIt, Account, IsAlone, end_of_half, TakesAsked, with_commit, turned_half}
+use Rattle.alm_keeper.specs.Stand.{HoldsPlant, HoldsIt, SaysIt, Account, IsAlone, saying, end_of_half, TakesAsked, with_commit, turned_half}
+use Rattle.alm_keeper.specs.Trail.{asked_in, IsEnd}
+use Rattle.alm_keeper.specs.Saying.{AddsTo}
 use Rattle.alm_types.specs.Sizes.{most_actions, most_entries}
 
--- the account of the device that the book holds
+-- the account of the device that the book holds. No field of a book has the trail
 abbrev pub account : Book → Account
-account b = record { layout = b.layout; half = b.half; other_open = b.other_open; version = b.version; epoch = b.epoch; gate = b.gate; plant = b.stored }
+account b = record { layout = b.layout; half = b.half; other_open = b.other_open; version = b.version; epoch = b.epoch; gate = b.gate; plant = b.stored; trail = [] }
 
 -- the run of the open checkpoint
 abbrev pub run_in : Book → List ℕ
@@ -164,7 +166,7 @@ GrowsWhere false old new = new.run ≡ old.run
 pub record ClosesBook (old new : Book) : Type 0 where
   pub stage : new.stage ≡ rest_stage old.copying
   pub work : new.work ≡ rest_work old.copying
-  pub account : account new ≡ with_commit (account old) old.actions.items
+  pub account : account new ≡ saying [] (with_commit (account old) old.actions.items)
   pub actions : new.actions.items ≡ old.actions.items
   pub copying : new.copying ≡ old.copying
   pub grows : GrowsWhere old.copying old new
@@ -216,28 +218,36 @@ work_beside stage Checkpoint k asked = End k stage
 abbrev pub at_out : Copy → ℕ → Copy
 at_out k out = record k { out = out }
 
--- what is kept of the device, if the device keeps to its model. The copied plant and the frames since are in no field: some copy
--- has this run
-abbrev pub KeptBy : Stage → Bool → Work → Book → DeviceState → Type 0
-KeptBy Stopped copying work b state = (x : List ℕ) → IsImage state x → HoldsPlant b.epoch b.stored x ⊎ HoldsIt (done_by work b) x
-KeptBy stage false work b state = KeptIn (work_alone stage b.actions.items) (account b) state
-KeptBy stage true work b state = (k : Copy) × (run_text (account b) k ≡ run_in b) × KeptIn (work_beside stage work (at_out k b.out) b.actions.items) (account b) state
+-- some copy has this run, whose frames are the last ones of a device with this trail. The copied plant and the frames since are in
+-- no field of the book
+pub record CopiedIn (b : Book) (trail : List Asked) (k : Copy) : Type 0 where
+  pub run : run_text (account b) k ≡ run_in b
+  pub ends : IsEnd (asked_in k.since) trail
+
+-- what is kept of the device, if the device keeps to its model and its trail is this one
+abbrev pub KeptBy : Stage → Bool → Work → List Asked → Book → DeviceState → Type 0
+KeptBy Stopped copying work trail b state = (x : List ℕ) → IsImage state x → HoldsPlant b.epoch b.stored x ⊎ HoldsIt (done_by work b) x
+KeptBy stage false work trail b state = KeptIn (work_alone stage b.actions.items) (saying trail (account b)) state
+KeptBy stage true work trail b state = (k : Copy) × CopiedIn b trail k × KeptIn (work_beside stage work (at_out k b.out) b.actions.items) (saying trail (account b)) state
 
 abbrev pub Keeps : DeviceState → Book → Type 0
-Keeps state b = KeptBy b.stage b.copying b.work b state
+Keeps state b = (trail : List Asked) × KeptBy b.stage b.copying b.work trail b state
 
 -- what a call makes of it
-abbrev pub PassesBy : Bool → Stage → Work → Book → Result Unit DiskFault → (old new : DeviceState) → Type 0
-PassesBy false stage work b result old new = AdvancesOn (work_alone stage b.actions.items) (account b) (piece_of b) result old new
-PassesBy true stage work b result old new = (k : Copy) × (run_text (account b) k ≡ run_in b) × KeptIn (work_beside stage work (at_out k b.out) b.actions.items) (account b) old
-    × AdvancesOn (work_beside stage work (at_out k b.out) b.actions.items) (account b) (piece_of b) result old new
+abbrev pub PassesBy : Bool → Stage → Work → List Asked → Book → Result Unit DiskFault → (old new : DeviceState) → Type 0
+PassesBy false stage work trail b result old new = AdvancesOn (work_alone stage b.actions.items) (saying trail (account b)) (piece_of b) result old new
+PassesBy true stage work trail b result old new = (k : Copy) × CopiedIn b trail k × KeptIn (work_beside stage work (at_out k b.out) b.actions.items) (saying trail (account b)) old
+    × AdvancesOn (work_beside stage work (at_out k b.out) b.actions.items) (saying trail (account b)) (piece_of b) result old new
 
 abbrev pub PassesOn : Result Unit DiskFault → (old new : DeviceState) → Book → Type 0
-PassesOn result old new b = PassesBy b.copying b.stage b.work b result old new
+PassesOn result old new b = (trail : List Asked) × PassesBy b.copying b.stage b.work trail b result old new
 
--- what a crash leaves at any moment of the call that is next
-abbrev pub MayLeave : Book → List ℕ → Type 0
-MayLeave b bytes = During (HoldsPlant b.epoch b.stored) (HoldsIt (account_next b)) b.stage bytes
+-- what a crash leaves at any moment of the call that is next, with the trail before it, and after the work
+pub record LeavesSaying (b : Book) (left : List ℕ → Type 0) : Type 0 where
+  pub before : List Asked
+  pub after : List Asked
+  pub adds : AddsTo b.work before b.actions.items after
+  pub says : (bytes : List ℕ) → left bytes → During (SaysIt (saying before (account b))) (SaysIt (saying after (account_next b))) b.stage bytes
 
 -- what a device encodes, by what is known of it
 abbrev pub standing_by : Account → Standing

@@ -13,4 +13,5 @@ pub mod Moments
 pub mod Formatted
 pub mod AsStore
 pub mod Trail
+pub mod Saying
 pub mod StoreLaws

@@ -1,5 +1,5 @@
 -- Opening a device.
-use Rattle.std.specs.Prelude.{◌≡◌, ℕ, List, Result, Ok, Err}
+use Rattle.std.specs.Prelude.{◌≡◌, ℕ, List, [], Result, Ok, Err}
 use Rattle.alm_disk.specs.Failures.{HasFailed}
 use Rattle.alm_checkpoint.specs.declared.layout.Layout.{Layout}
 use Rattle.alm_checkpoint.specs.declared.half.Half.TheVariants.{First, Second}
@@ -15,7 +15,8 @@ use Rattle.alm_checkpoint.specs.declared.restore_fault.RestoreFault.TheVariants 
 use Rattle.alm_store.specs.declared.open_fault.OpenFault.{OpenFault}
 use Rattle.alm_store.specs.declared.open_fault.OpenFault.TheVariants.{Unformatted, Damaged, Disk, OutOfMemory}
 use Rattle.alm_keeper.specs.declared.book.Book.{Book}
-use Rattle.alm_keeper.specs.Stand.{Ready}
+use Rattle.alm_codec.specs.declared.asked.Asked.{Asked}
+use Rattle.alm_keeper.specs.Stand.{Ready, saying}
 use Rattle.alm_keeper.specs.Keeping.{account}
 
 abbrev pub open_fault : DeviceFault → OpenFault
@@ -43,7 +44,7 @@ IsReadOf (Err (Damaged half at)) read = read ≡ Err (found.Damaged half at)
 
 -- the device was opened: its book is as the bytes are; or the fault is theirs
 abbrev pub OpensAs : (bytes : List ℕ) → Result Book OpenFault → Type 0
-OpensAs bytes (Ok book) = Ready (account book) bytes
+OpensAs bytes (Ok book) = (trail : List Asked) × Ready (saying trail (account book)) bytes
 OpensAs bytes (Err Disk) = Unit {0}
 OpensAs bytes (Err OutOfMemory) = Unit {0}
 OpensAs bytes (Err Unformatted) = HasFault bytes found.Unformatted
@@ -65,7 +66,7 @@ opened_by l m image segment = record { layout = l; half = m.half; head = m.head;
 
 -- the book of what the half holds, or why it holds nothing
 abbrev pub Restores : Layout → Marks → (image segment : List ℕ) → Result Book OpenFault → Type 0
-Restores l m image segment (Ok book) = RestoredAs (opened_by l m image segment) book.stored book.gate × (account book ≡ record { layout = l; half = m.half; other_open = m.other_open; version = m.head.version; epoch = m.head.epoch; gate = book.gate; plant = book.stored })
+Restores l m image segment (Ok book) = RestoredAs (opened_by l m image segment) book.stored book.gate × (account book ≡ record { layout = l; half = m.half; other_open = m.other_open; version = m.head.version; epoch = m.head.epoch; gate = book.gate; plant = book.stored; trail = [] })
 Restores l m image segment (Err Disk) = ⊥
 Restores l m image segment (Err OutOfMemory) = Unit {0}
 Restores l m image segment (Err Unformatted) = IsUnrestored (opened_by l m image segment) (unrestored.Damaged found.Unformatted)

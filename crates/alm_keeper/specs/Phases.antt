@@ -8,7 +8,7 @@ use Rattle.alm_codec.specs.Frames.{IsFrame, asked_actions, frame_body}
 use Rattle.alm_disk.specs.Device.{DeviceState, Writes, Syncs}
 use Rattle.alm_disk.specs.Device.{IsImage as IsLeft}
 use Rattle.alm_checkpoint.specs.Headers.{is_summed}
-use Rattle.alm_keeper.specs.Stand.{HoldsPlant, HoldsIt, Ready, Account, other_at, TakesAsked, with_commit}
+use Rattle.alm_keeper.specs.Stand.{SaysIt, Ready, Account, other_at, TakesAsked, with_commit}
 use Rattle.alm_keeper.specs.Resting.{RestsBut, or_within, Kept}
 use Rattle.alm_keeper.specs.Stages.{During, next_stage, turn_stage}
 use Rattle.alm_keeper.specs.declared.stage.Stage.{Stage}
@@ -21,7 +21,7 @@ with_other_shut a = record a { other_open = false }
 
 -- the gate was written closed, and awaits its sync
 pub record ClosesOther (a : Account) (state : DeviceState) : Type 0 where
-  pub images : (b : List ℕ) → IsLeft state b → HoldsPlant a.epoch a.plant b
+  pub images : (b : List ℕ) → IsLeft state b → SaysIt a b
   pub bytes : List ℕ
   pub ready : Ready (with_other_shut a) bytes
   pub rests : RestsBut (or_within (other_at a) 1 (λ place. false)) state bytes
@@ -107,11 +107,11 @@ MakesCall (End k stage) a n result old new = StageCall a.layout.version stage (o
 -- what a crash leaves at any moment of it
 abbrev pub DuringIn : UnderWay → Account → List ℕ → Type 0
 DuringIn Rest a b = Ready a b
-DuringIn (Shut k) a b = HoldsPlant a.epoch a.plant b
-DuringIn (ShutSync k) a b = HoldsPlant a.epoch a.plant b
+DuringIn (Shut k) a b = SaysIt a b
+DuringIn (ShutSync k) a b = SaysIt a b
 DuringIn (Pause k) a b = Ready a b
 DuringIn (Frame other stage asked) a b = During (Ready a) (Ready (with_commit a asked)) stage b
-DuringIn (End k stage) a b = During (HoldsIt a) (HoldsIt (turned_by a k)) stage b
+DuringIn (End k stage) a b = During (SaysIt a) (SaysIt (turned_by a k)) stage b
 
 -- after a commit's end
 abbrev pub without_pause : Option Copy → List Asked → UnderWay

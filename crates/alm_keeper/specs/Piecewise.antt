@@ -14,6 +14,7 @@ use Rattle.alm_checkpoint.specs.Cut.{head_before}
 use Rattle.alm_checkpoint.specs.Headers.{half_head_text}
 use Rattle.alm_keeper.specs.Stand.{Ready, Account, left_open, other_at}
 use Rattle.alm_keeper.specs.Resting.{RestsBut}
+use Rattle.alm_keeper.specs.Trail.{asked_in}
 use Rattle.alm_types.specs.Sizes.{most_actions}
 
 -- an open checkpoint: the plant that was copied, the frames committed since, and how many bytes of the run went out
@@ -71,7 +72,7 @@ pub record Paused (a : Account) (k : Copy) (state : DeviceState) : Type 0 where
 
 -- the device after the checkpoint's gate was opened
 abbrev pub turned_by : Account → Copy → Account
-turned_by a k = record a { half = other a.half; other_open = true; version = newer a.version; epoch = a.epoch + 1; gate = other_at a + 1 + length (open_text a k) }
+turned_by a k = record a { half = other a.half; other_open = true; version = newer a.version; epoch = a.epoch + 1; gate = other_at a + 1 + length (open_text a k); trail = asked_in k.since }
 
 -- .. and after its end
 abbrev pub ended_by : Account → Copy → Account

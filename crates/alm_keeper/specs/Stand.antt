@@ -1,5 +1,5 @@
 -- What a keeper knows of its device.
-use Rattle.std.specs.Prelude.{◌≡◌, ℕ, ◌+◌, ◌≤◌, ◌&&◌, Bool, false, not, List, ◌∷◌, length}
+use Rattle.std.specs.Prelude.{◌≡◌, ℕ, ◌+◌, ◌≤◌, ◌&&◌, Bool, false, not, List, ◌∷◌, ◌++◌, length}
 use Rattle.alm_types.specs.declared.action.Action.{Action}
 use Rattle.alm_codec.specs.declared.asked.Asked.{Asked}
 use Rattle.alm_model.specs.Plant.{Condensed}
@@ -13,6 +13,7 @@ use Rattle.alm_checkpoint.specs.declared.half.Half.{Half}
 use Rattle.alm_checkpoint.specs.Layouts.{layout_byte, is_half_open, half_at, half_len, other}
 use Rattle.alm_checkpoint.specs.Headers.{is_summed}
 use Rattle.alm_checkpoint.specs.Cut.{Cut, Stores, Reaches, front, device_of}
+use Rattle.alm_keeper.specs.Trail.{asked_in}
 
 -- the device holds this plant in this epoch, before a closed gate
 pub record HoldsPlant (epoch : ℕ) (plant : Condensed) (bytes : List ℕ) : Type 0 where
@@ -38,14 +39,24 @@ pub record Account : Type 0 where
   -- the place of the first closed gate of the half that stands
   pub gate : ℕ
   pub plant : Condensed
+  -- the actions that the half that stands says since its image, each with who asked
+  pub trail : List Asked
 
 -- what a keeper knows of a device that is cut so
 abbrev pub account_of : Cut → Condensed → Account
-account_of c plant = record { layout = c.layout; half = c.half; other_open = is_half_open (layout_byte c.other 0); version = c.version; epoch = c.epoch; gate = length (front c); plant = plant }
+account_of c plant = record { layout = c.layout; half = c.half; other_open = is_half_open (layout_byte c.other 0); version = c.version; epoch = c.epoch; gate = length (front c); plant = plant; trail = asked_in c.frames }
 
 -- its plant is stored in its epoch
 abbrev pub HoldsIt : Account → List ℕ → Type 0
 HoldsIt a bytes = HoldsPlant a.epoch a.plant bytes
+
+-- .. and its frames say its trail
+abbrev pub SaysIt : Account → List ℕ → Type 0
+SaysIt a bytes = (holds : HoldsIt a bytes) × (a.trail ≡ asked_in holds.cut.frames)
+
+-- the same account, with this trail
+abbrev pub saying : List Asked → Account → Account
+saying trail a = record a { trail = trail }
 
 -- the device is as the account says
 pub record Ready (a : Account) (bytes : List ℕ) : Type 0 where
@@ -87,7 +98,7 @@ left_open version = not (is_summed version)
 
 -- after a commit, after a checkpoint
 abbrev pub with_commit : Account → List Asked → Account
-with_commit a asked = record a { gate = a.gate + frame_len (length asked); plant = run a.plant (asked_actions asked) }
+with_commit a asked = record a { gate = a.gate + frame_len (length asked); plant = run a.plant (asked_actions asked); trail = a.trail ++ asked }
 
 -- .. whose run has this length
 abbrev pub turned_half : Account → (run : ℕ) → Account

@@ -1,12 +1,12 @@
 //! One device call of the work that is begun.
 
-ghost use Rattle.std.specs.Prelude.{◌≡◌, ◌≢◌, ◌≤◌, ◌⊎◌, ◌↔◌, List, ℕ};
+ghost use Rattle.std.specs.Prelude.{◌≡◌, ◌≢◌, ◌≤◌, ◌⊎◌, ◌↔◌};
 ghost use Rattle.alm_keeper.specs.Stages.{IsWorking};
 ghost use Rattle.alm_disk.specs.Device.{IsImage};
 ghost use Rattle.alm_disk.specs.Failures.{CountsFault, HasFailed};
 ghost use Rattle.alm_store.specs.Calls.{IsCall};
 ghost use Rattle.alm_keeper.specs.Keeper.{call_of, payload_of, Makes, CallsOnce};
-ghost use Rattle.alm_keeper.specs.Keeping.{keeper_of, InOrder, FitsDevice, Keeps, PassesOn, MayLeave, EndsStep};
+ghost use Rattle.alm_keeper.specs.Keeping.{keeper_of, InOrder, FitsDevice, Keeps, PassesOn, LeavesSaying, EndsStep};
 
 use crate::book::Book;
 use crate::gated::call;
@@ -69,8 +69,9 @@ pub fn advance<D: Disk>(disk: &mut D, book: &mut Book) -> Progress
     ensures is_call { D.honest disk.old → IsCall (D.state disk.old) (D.state disk.new) }
     ensures keeps { D.honest disk.old → ∥ Keeps (D.state disk.old) book.old ∥₁ →
         ∥ Keeps (D.state disk.new) book.new ∥₁ }
-    ensures any_moment { D.honest disk.old → ∥ Keeps (D.state disk.old) book.old ∥₁ → (b : List ℕ) →
-        (IsImage (D.state disk.old) b ⊎ IsImage (D.state disk.new) b) → ∥ MayLeave book.old b ∥₁ }
+    ensures any_moment { D.honest disk.old → ∥ Keeps (D.state disk.old) book.old ∥₁ →
+        ∥ LeavesSaying book.old
+        (λ b. IsImage (D.state disk.old) b ⊎ IsImage (D.state disk.new) b) ∥₁ }
 {
     match call_next(disk, book) {
         Ok(()) => book.go_on(),

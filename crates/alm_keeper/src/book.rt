@@ -1,13 +1,13 @@
 //! What a keeper knows of its device, and what it has begun.
 
-ghost use Rattle.std.specs.Prelude.{◌≡◌, ◌≤◌, ◌<◌, ◌+◌, ◌*◌, ◌-◌, ◌↔◌, IsTrue, length, take, drop, true, false};
+ghost use Rattle.std.specs.Prelude.{◌≡◌, ◌≤◌, ◌<◌, ◌+◌, ◌*◌, ◌-◌, ◌↔◌, IsTrue, length, take, drop, [], true, false};
 ghost use Rattle.alm_keeper.specs.Stages.{IsWorking, first_stage, turn_stage};
 ghost use Rattle.alm_checkpoint.specs.Headers.{is_summed};
 ghost use Rattle.alm_checkpoint.specs.Layouts.{half_at, half_len};
 ghost use Rattle.alm_segment.specs.Course.{frame_len};
 ghost use Rattle.alm_model.specs.Judging.{accepted_of};
 ghost use Rattle.alm_keeper.specs.Batch.{accepted_asked};
-ghost use Rattle.alm_keeper.specs.Stand.{IsAlone, other_at, end_of_half, FitsFrame, TakesFrame, left_open, with_commit};
+ghost use Rattle.alm_keeper.specs.Stand.{IsAlone, other_at, end_of_half, FitsFrame, TakesFrame, saying, with_commit};
 ghost use Rattle.alm_keeper.specs.declared.stage.Stage.{Stage};
 ghost use Rattle.alm_keeper.specs.declared.stage.Work.{Work};
 ghost use Rattle.alm_keeper.specs.Stages.{phase_of};
@@ -201,7 +201,8 @@ impl Book {
         requires working { IsWorking self.old.stage }
         requires commit { self.old.work ≡ Work.Commit }
         requires in_order { InOrder self.old }
-        ensures account { account self.new ≡ with_commit (account self.old) self.old.actions.items }
+        ensures account { account self.new ≡
+            saying [] (with_commit (account self.old) self.old.actions.items) }
         ensures same { self.new ≡
             record self.old { gate = self.new.gate; stored = self.new.stored; written = 0 } }
     {

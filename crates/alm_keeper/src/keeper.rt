@@ -14,6 +14,7 @@ ghost use Rattle.alm_model.specs.Judging.{accepted_of};
 ghost use Rattle.alm_store.specs.Calls.{IsCall, AreDone, SyncsAndEndsIn};
 ghost use Rattle.alm_keeper.specs.Stages.{IsWorking, phase_of};
 ghost use Rattle.alm_keeper.specs.Stand.{IsAlone};
+ghost use Rattle.alm_keeper.specs.Saying.{MaySay, SaysOne};
 ghost use Rattle.alm_store.specs.Advancing.{IsResting};
 ghost use Rattle.alm_keeper.specs.Formatted.{IsFormatted, IsLeftBy};
 ghost use Rattle.alm_keeper.specs.Opening.{OpensAs, CountsAs};
@@ -81,6 +82,9 @@ impl<D: Disk + Drop> Keeper<D> {
         ensures any_moment { D.honest self.old.disk → (b : List ℕ) →
             (IsImage (D.state self.old.disk) b ⊎ IsImage (D.state self.new.disk) b) →
             ∥ MayStand self.old b ∥₁ }
+        // .. and what that says of who asked: what was said before, or that and the commit's actions.
+        ensures says { D.honest self.old.disk → ∥ MaySay self.old
+            (λ b. IsImage (D.state self.old.disk) b ⊎ IsImage (D.state self.new.disk) b) ∥₁ }
     {
         advance(&mut self.disk, &mut self.book)
     }
@@ -121,6 +125,9 @@ impl<D: Disk + Drop> Keeper<D> {
     pub fn images(&self)
         ensures either { D.honest self.now.disk → (b : List ℕ) → IsImage (D.state self.now.disk) b →
             ∥ IsStoredIn self.now.stored b ⊎ IsStoredIn (next self.now) b ∥₁ }
+        // At rest a crash leaves one list of who asked.
+        ensures says { D.honest self.now.disk → IsResting (phase_of self.now.stage self.now.work) →
+            ∥ SaysOne (IsImage (D.state self.now.disk)) ∥₁ }
         ensures rests { D.honest self.now.disk → IsResting (phase_of self.now.stage self.now.work) →
             ∥ StandsWithRoom self.now.stored (D.state self.now.disk).bytes ∥₁ }
         // The half that stands, the other one's gate, and the lengths by which `call_of` has its places.

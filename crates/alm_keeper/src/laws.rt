@@ -1,6 +1,6 @@
 //! Laws: each function does nothing, and its contract is the law.
 
-ghost use Rattle.std.specs.Prelude.{◌≡◌, ◌≤◌, ◌+◌, ◌∷◌, ◌++◌, [], ℕ, List, length, Result, Ok};
+ghost use Rattle.std.specs.Prelude.{◌≡◌, ◌≤◌, ◌+◌, ◌++◌, ℕ, List, false, Result, Ok};
 ghost use Rattle.alm_disk.specs.Device.{DeviceState};
 ghost use Rattle.alm_disk.specs.declared.disk_fault.DiskFault.{DiskFault};
 ghost use Rattle.alm_types.specs.Batches.{Judged};
@@ -13,11 +13,11 @@ ghost use Rattle.alm_store.specs.Pacing.{KeepsPace, TakesAny};
 ghost use Rattle.alm_store.specs.State.{StoreState};
 ghost use Rattle.alm_keeper.specs.Phases.{UnderWay, KeptIn, MakesCall, WorkAdvances};
 ghost use Rattle.alm_keeper.specs.Stand.{Account, TakesAsked, account_of, end_of_half};
-ghost use Rattle.alm_keeper.specs.Trail.{Says};
-ghost use Rattle.alm_keeper.specs.Formatting.{overwritten};
+ghost use Rattle.alm_keeper.specs.Trail.{Says, gated, with_body};
 ghost use Rattle.alm_codec.specs.declared.asked.Asked.{Asked};
-ghost use Rattle.alm_codec.specs.Frames.{IsFrame, asked_actions, frame_body};
-ghost use Rattle.alm_checkpoint.specs.Cut.{front};
+ghost use Rattle.alm_codec.specs.Frames.{IsFrame, asked_actions};
+ghost use Rattle.alm_codec.specs.Versions.{is_open};
+ghost use Rattle.alm_codec.specs.declared.version.Version.TheVariants.{V03};
 ghost use Rattle.alm_store.specs.declared.phase.Phase.{Phase};
 ghost use Rattle.alm_store.specs.Advancing.{IsResting};
 
@@ -33,9 +33,24 @@ pub fn a_commit_says_who_asked()
     ensures { (bytes : List ℕ) (before asked : List Asked) (s : Says before bytes) →
         IsFrame s.cut.version s.cut.epoch (s.plant.panel.count + 1) asked →
         AreAdmitted s.plant (asked_actions asked) →
-        TakesAsked (account_of s.cut s.plant) asked → Says (before ++ asked) (overwritten
-        (length (front s.cut)) (165 ∷ []) (overwritten (length (front s.cut) + 1) (frame_body
-        s.cut.version s.cut.epoch (s.plant.panel.count + 1) asked) bytes)) }
+        TakesAsked (account_of s.cut s.plant) asked →
+        Says (before ++ asked) (gated s 165 (with_body s asked)) }
+{}
+
+/// No reader can find that the last frame's gate reads closed by damage: such a device says what it said before the commit. In
+/// version 03 it is the one that a loss of power leaves between the two writes.
+pub fn a_closed_gate_is_not_found()
+    ensures says { (bytes : List ℕ) (before asked : List Asked) (s : Says before bytes) →
+        IsFrame s.cut.version s.cut.epoch (s.plant.panel.count + 1) asked →
+        AreAdmitted s.plant (asked_actions asked) →
+        TakesAsked (account_of s.cut s.plant) asked → (gate : ℕ) →
+        is_open s.cut.version gate ≡ false →
+        Says before (gated s gate (gated s 165 (with_body s asked))) }
+    ensures same { (bytes : List ℕ) (before asked : List Asked) (s : Says before bytes) →
+        IsFrame s.cut.version s.cut.epoch (s.plant.panel.count + 1) asked →
+        AreAdmitted s.plant (asked_actions asked) →
+        TakesAsked (account_of s.cut s.plant) asked → s.cut.version ≡ V03 →
+        gated s 90 (gated s 165 (with_body s asked)) ≡ with_body s asked }
 {}
 
 /// A device says one list of actions with who asked.

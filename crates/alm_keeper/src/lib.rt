@@ -51,7 +51,7 @@
 //! | Batch | the accepted actions of a batch, each with the slot that asked, and how they are tried one after the other |
 //! | Formatting, Moments | what formatting makes: ten device calls in their order, and what a crash leaves at any moment of each |
 //! | Opening | what opening answers to the bytes |
-//! | Trail | which actions a device says since its image, each with who asked |
+//! | Trail, Saying | which actions a device says since its image, each with who asked; and which it says after a crash |
 //! | Calls | which device call is that of a stage, and which are those of an opening |
 //! | Stand, Resting, Piecewise, Phases, Keeping | what a keeper knows of its device, of which two laws speak |
 //!
@@ -70,6 +70,8 @@
 //!   `Keeper::advance`, `images`)
 //! - a crash at any moment of a checkpoint leaves what is stored; from its last call but one on, in either epoch (by
 //!   `Keeper::advance`, `images`)
+//! - what a crash leaves says who asked: in a commit the list of before, or that and its actions; in a checkpoint that list or
+//!   its end (by `Keeper::advance`, `images`)
 //! - each `advance` makes one device call, and which is said with its bytes: of a commit its frame, with the slot that asked each
 //!   action. A checkpoint goes out in pieces of at most 65,536 bytes, with commits between (by `Keeper::advance`, `begin`,
 //!   `begin_checkpoint`, `paused`, `written_since`, `mark`)

@@ -1,4 +1,5 @@
 use Rattle.alm_keeper.specs.Keeping.{account}
+use Rattle.alm_keeper.specs.Stand.{saying}
 use Rattle.alm_keeper.proofs.Standings.{opened_keeps, ready_room}
 use Rattle.alm_keeper.proofs.keeper.open_store.Goals as goal
 
@@ -11,4 +12,4 @@ invariant_of-result g c =
     )
 
 pub returns-in-Ok-clause-stands : goal.returns-in-Ok-clause-stands
-returns-in-Ok-clause-stands g c = λ honest. ready_room (account c.in-Ok.book) (g.D.Disk.state c.open_book.new.disk).bytes (c.in-Ok.ensures.opens honest)
+returns-in-Ok-clause-stands g c = λ honest. let opened = c.in-Ok.ensures.opens honest in ready_room (saying opened.0 (account c.in-Ok.book)) (g.D.Disk.state c.open_book.new.disk).bytes opened.1
