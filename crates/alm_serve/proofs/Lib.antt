@@ -1,7 +1,9 @@
 mod Cut
 pub mod Attended
 pub mod Beginnings
+pub mod Begun
 pub mod Runs
+pub mod Stepped
 pub mod Stores
 pub mod Talks
 pub mod Taken

@@ -6,4 +6,5 @@ pub mod Scrubs
 pub mod Service
 pub mod Serving
 pub mod Stores
+pub mod StreamWires
 pub mod Talks

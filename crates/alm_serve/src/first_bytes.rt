@@ -1,12 +1,10 @@
 //! How a connection begins.
 
-ghost use Rattle.std.specs.Prelude.{◌≡◌, ◌++◌, ◌-◌, ◌⊎◌, List, ℕ, [], length, take, true, false};
-ghost use Rattle.alm_session.specs.declared.wire.ReadGave.TheVariants as gave;
+ghost use Rattle.std.specs.Prelude.{◌≡◌, ◌++◌, ◌-◌, List, ℕ, [], length, take};
 ghost use Rattle.alm_serve.specs.Http.{begins_as_http, begins_with_method};
 ghost use Rattle.alm_serve.specs.Beginnings.{Saw};
 
 use crate::first_line::FirstLine;
-use alm_session::ReadGave;
 use arrayvec::ArrayVec;
 
 /// How many bytes hold the longest of those methods and the space after it.
@@ -61,7 +59,7 @@ impl FirstBytes {
     }
 
     /// Takes what came next. Whether all that came begins as a request of HTTP.
-    fn is_http_with(&mut self, came: &[u8]) -> bool
+    pub fn is_http_with(&mut self, came: &[u8]) -> bool
         ensures seen { (before : List ℕ) → Saw before self.old.bytes.items self.old.line →
             Saw (before ++ came.now) self.new.bytes.items self.new.line }
         ensures http { (before : List ℕ) → Saw before self.old.bytes.items self.old.line →
@@ -71,22 +69,5 @@ impl FirstBytes {
         self.line.take(came);
         let begins = begins_with_method(self.bytes.as_slice());
         begins | self.line.is_request()
-    }
-
-    /// What the read returns in which these bytes came: the end, if all that came begins as a request of HTTP.
-    pub fn give(&mut self, came: &[u8]) -> ReadGave
-        ensures seen { (before : List ℕ) → Saw before self.old.bytes.items self.old.line →
-            Saw (before ++ came.now) self.new.bytes.items self.new.line }
-        ensures http { (before : List ℕ) → Saw before self.old.bytes.items self.old.line →
-            begins_as_http (before ++ came.now) ≡ true → result ≡ gave.End }
-        ensures other { (before : List ℕ) → Saw before self.old.bytes.items self.old.line →
-            begins_as_http (before ++ came.now) ≡ false → result ≡ gave.Got (length came.now) }
-        ensures either { (result ≡ gave.End) ⊎ (result ≡ gave.Got (length came.now)) }
-    {
-        if self.is_http_with(came) {
-            ReadGave::End
-        } else {
-            ReadGave::Got(came.len())
-        }
     }
 }

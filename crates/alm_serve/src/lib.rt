@@ -55,8 +55,8 @@
 //! A device call that hangs can't be ended. With a [`Patience`] the calls of a [`CountedDisk`] are counted, and the ports serve
 //! nobody while one takes too long. Requests that were sent before stay: they are done if the call comes back well.
 //!
-//! Checked by reading: that `read` and `write` of a `StreamWire` make the call which they note. Also that `read` asks its first
-//! bytes about what came, and that accepting and closing a connection makes no such call.
+//! Checked by reading: that `read` and `write` of a `StreamWire` make the call which they note, and that accepting and closing a
+//! connection makes no such call.
 //!
 //! Not covered: that a wake comes, that the server ever ends, and time. Nor that a port closes while a device call takes too
 //! long, and that a look is answered Stopped only once the run has stopped. There are no accounts: a client that reaches a port of
@@ -74,8 +74,8 @@
 //!   its port's session** (by `serve_store`)
 //! - **of each connection of such a port the lines are answered in order, and what was written is a prefix of the replies** (by
 //!   `serve_store`)
-//! - a connection has ended that begins as a request of HTTP, whatever its method, and no other has ended for its first bytes
-//!   (by `FirstBytes`)
+//! - what a connection's reads give doesn't begin as a request of HTTP, whatever its method. A connection that does has ended, and
+//!   no other has for its first bytes (by `StreamWire`, `PlainBytes`)
 //! - what the server writes, by how it ends, or a prefix if the writer fails; why a device isn't opened (by `serve_ports`,
 //!   `serve_sockets`)
 //! - **from a plant that an image of its device holds, a run of all 18 slots, up to the device returned; it names no
@@ -98,6 +98,7 @@ pub mod laws;
 mod listen;
 mod opening;
 mod patience;
+mod plain_bytes;
 mod port_fault;
 mod ports;
 mod scrub;

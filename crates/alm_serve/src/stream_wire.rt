@@ -1,10 +1,11 @@
 //! A non-blocking stream as a wire.
 
-ghost use Rattle.std.specs.Prelude.{◌≡◌, ◌↔◌, ◌⊎◌, ◌-◌, IsTrue};
+ghost use Rattle.std.specs.Prelude.{◌≡◌, ◌↔◌, ◌⊎◌, ◌-◌, ◌++◌, IsTrue};
 ghost use Rattle.std_io.specs.declared.io.kind.ErrorKind.TheVariants.{WouldBlock, Interrupted};
 
-use crate::first_bytes::FirstBytes;
+use crate::plain_bytes::PlainBytes;
 use crate::traffic::Traffic;
+use crate::transcript::Transcript;
 use alm_session::{ReadGave, Wire, WriteTook};
 use std::io::{ErrorKind, Read, Write};
 
@@ -20,28 +21,36 @@ use std::io::{ErrorKind, Read, Write};
 /// In `read` and `write` a call of the stream and its note stand side by side. That each makes the call which it notes is checked
 /// by reading: no contract of a socket says what it carries.
 #[derive(Drop)]
-pub struct StreamWire<S: Read + Write + Drop> {
+pub struct StreamWire<S> {
     stream: S,
-    first: FirstBytes,
+    /// What came on this connection.
+    pub here: PlainBytes,
     /// The bytes of the slot's connections, up to now.
     pub traffic: Traffic,
+    /// What had come over those before this one.
+    pub before: Transcript,
     is_dry: bool,
     reads_on: bool,
     blocked_reads: u64,
     blocked_writes: u64,
     failed: u64,
+    /// What came over the slot's connections ends with what this one gave.
+    pub ghost ends: { traffic.came.bytes ≡ before.bytes ++ here.given.bytes },
 }
 
 impl<S: Read + Write + Drop> StreamWire<S> {
-    ghost use Rattle.std.specs.Prelude.{◌≡◌};
+    ghost use Rattle.std.specs.Prelude.{◌≡◌, []};
 
     /// A wire over a stream that never waits, with the bytes of the slot's connections before it.
     pub fn new(stream: S, traffic: Traffic) -> Self
-        ensures { result.traffic ≡ traffic }
+        ensures traffic { result.traffic ≡ traffic }
+        ensures before { result.before.bytes ≡ traffic.came.bytes }
+        ensures here { result.here.came.bytes ≡ [] }
     {
         StreamWire {
             stream,
-            first: FirstBytes::new(),
+            here: PlainBytes::new(),
+            before: traffic.came.copy(),
             traffic,
             is_dry: false,
             reads_on: false,
@@ -56,6 +65,8 @@ impl<S: Read + Write + Drop> StreamWire<S> {
     pub fn find_ready(&mut self, reads_on: bool)
         ensures stream { self.new.stream ≡ self.old.stream }
         ensures traffic { self.new.traffic ≡ self.old.traffic }
+        ensures before { self.new.before ≡ self.old.before }
+        ensures here { self.new.here ≡ self.old.here }
     {
         self.is_dry = false;
         self.reads_on = self.reads_on || reads_on;
@@ -77,19 +88,23 @@ fn is_for_later(kind: ErrorKind) -> bool
 }
 
 impl<S: Read + Write + Drop> Wire for StreamWire<S> {
-    ghost use Rattle.std.specs.Prelude.{None};
+    ghost use Rattle.std.specs.Prelude.{◌≡◌, length};
+    ghost use Rattle.alm_session.specs.Wires.{ReadBytes, ReadCounts, WriteBytes, WriteCounts};
+    ghost use Rattle.alm_serve.specs.StreamWires.{Asks, counts_of, input_of};
 
-    ghost counts = { λ w. record {
-      blocked_reads = w.blocked_reads;
-      blocked_writes = w.blocked_writes;
-      failed = w.failed;
-    } };
+    ghost counts = { λ w. counts_of w };
 
-    ghost input = { λ w. record { came = w.traffic.came.bytes; coming = None } };
+    ghost input = { λ w. input_of w };
 
     ghost written = { λ w. w.traffic.written.bytes };
 
-    fn read(&mut self, into: &mut [u8]) -> ReadGave {
+    fn read(&mut self, into: &mut [u8]) -> ReadGave
+        ensures counts { ReadCounts result (length into.new) (counts_of self.old) (counts_of self.new) }
+        ensures input { ReadBytes result into.new (input_of self.old) (input_of self.new) }
+        ensures written { self.new.traffic.written ≡ self.old.traffic.written }
+        ensures before { self.new.before ≡ self.old.before }
+        ensures here { Asks result into.new self.old.here self.new.here }
+    {
         if self.is_dry {
             self.blocked_reads = self.blocked_reads.saturating_add(1);
             return ReadGave::Blocked;
@@ -99,7 +114,7 @@ impl<S: Read + Write + Drop> Wire for StreamWire<S> {
             Ok(0) => ReadGave::End,
             Ok(count) => {
                 self.is_dry = count < room && !self.reads_on;
-                let gave = self.first.give(&into[..count]);
+                let gave = self.here.give(&into[..count]);
                 if let ReadGave::Got(_) = gave {
                     self.traffic.came.note(&into[..count]);
                 }
@@ -117,7 +132,14 @@ impl<S: Read + Write + Drop> Wire for StreamWire<S> {
         }
     }
 
-    fn write(&mut self, bytes: &[u8]) -> WriteTook {
+    fn write(&mut self, bytes: &[u8]) -> WriteTook
+        ensures counts { WriteCounts result (length bytes.now) (counts_of self.old) (counts_of self.new) }
+        ensures written { WriteBytes result bytes.now self.old.traffic.written.bytes
+            self.new.traffic.written.bytes }
+        ensures input { input_of self.new ≡ input_of self.old }
+        ensures before { self.new.before ≡ self.old.before }
+        ensures here { self.new.here ≡ self.old.here }
+    {
         match self.stream.write(bytes) {
             Ok(count) if count > 0 => {
                 self.traffic.written.note(&bytes[..count]);

@@ -29,6 +29,15 @@ impl Transcript {
         }
     }
 
+    /// The same bytes once more.
+    pub fn copy(&self) -> Transcript
+        ensures { result.bytes ≡ self.now.bytes }
+    {
+        Transcript {
+            marker: PhantomData,
+        }
+    }
+
     /// Does nothing: it says that these bytes are in it now, after the others.
     pub fn note(&mut self, _bytes: &[u8])
         ensures { self.new.bytes ≡ self.old.bytes ++ _bytes.now }
