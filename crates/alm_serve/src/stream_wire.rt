@@ -99,7 +99,8 @@ impl<S: Read + Write + Drop> Wire for StreamWire<S> {
     ghost written = { λ w. w.traffic.written.bytes };
 
     fn read(&mut self, into: &mut [u8]) -> ReadGave
-        ensures counts { ReadCounts result (length into.new) (counts_of self.old) (counts_of self.new) }
+        ensures counts { ReadCounts result (length into.new) (counts_of self.old)
+            (counts_of self.new) }
         ensures input { ReadBytes result into.new (input_of self.old) (input_of self.new) }
         ensures written { self.new.traffic.written ≡ self.old.traffic.written }
         ensures before { self.new.before ≡ self.old.before }
@@ -133,7 +134,8 @@ impl<S: Read + Write + Drop> Wire for StreamWire<S> {
     }
 
     fn write(&mut self, bytes: &[u8]) -> WriteTook
-        ensures counts { WriteCounts result (length bytes.now) (counts_of self.old) (counts_of self.new) }
+        ensures counts { WriteCounts result (length bytes.now) (counts_of self.old)
+            (counts_of self.new) }
         ensures written { WriteBytes result bytes.now self.old.traffic.written.bytes
             self.new.traffic.written.bytes }
         ensures input { input_of self.new ≡ input_of self.old }

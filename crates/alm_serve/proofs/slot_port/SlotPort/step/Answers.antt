@@ -1,4 +1,4 @@
-use Rattle.std.proofs.Common.{refl}
+use Rattle.std.proofs.Common.{refl, rules}
 use Rattle.alm_rings.specs.Ends.{sent_of}
 use Rattle.alm_session.specs.Sides.{heard_by}
 use Rattle.alm_serve.proofs.Stepped.{stepped}
@@ -32,8 +32,8 @@ returns-in-Closed-clause-attends g c =
     let old = c.args.self.now in
     let new = c.step.new in
     stepped _ _ old.service.session new.self.session (g.L.Look.knows c.args.look.now) (g.L.Look.knows new.look) c.args.console.now new.console
-    old.service.connection new.self.connection (served.Closed c.in-Closed.wire) old.traffic c.close-self.result (λ awaits. cc (c.if-is_awaited.ensures.1 awaits))
-    c.in-Closed.ensures.open c.in-Closed.ensures.ended c.close-self.ensures
+    old.service.connection new.self.connection (served.Closed c.in-Closed.wire) old.traffic _ (λ awaits. cc (c.if-is_awaited.ensures.1 awaits))
+    c.in-Closed.ensures.open c.in-Closed.ensures.ended (search rules)
 
 pub returns-in-Over-clause-attends : goal.returns-in-Over-clause-attends
 returns-in-Over-clause-attends g c =
