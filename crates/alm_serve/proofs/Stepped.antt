@@ -44,7 +44,7 @@ any_least p = record {
 }
 
 module _ {S T : Type 0} {g : Ghosts T} (looks : Looks) (base : Condensed) (session later : Session) (knew knows : List Action) (before after : Console T g) where
-  -- the slot's side, by its connection and the bytes beside it
+  -- the slot's side, by its connection and the bytes of those before it
   abbrev old_side : Connection (StreamWire S) → Traffic → SlotState
   old_side connection kept = slot_state session knew (record { came = (traffic_with connection kept).came; coming = None }) (traffic_with connection kept).written (sent_of before) (heard_by before)
 
@@ -62,7 +62,7 @@ module _ {S T : Type 0} {g : Ghosts T} (looks : Looks) (base : Condensed) (sessi
   Dropped More result next =
       Settles result next after × (later ≡ session) × (sent_of after ≡ sent_of before) × IsDrained base knew (heard_by before) knows (heard_by after) × More
 
-  -- the bytes beside it are those of a wire that was closed, else as before
+  -- the bytes of those before are those of a wire that was closed, else what they were
   abbrev Keeps : Served (StreamWire S) → Traffic → Traffic → Type 0
   Keeps (served.Closed wire) kept left = left ≡ wire.traffic
   Keeps other kept left = left ≡ kept
