@@ -14,7 +14,7 @@ use Rattle.alm_session.specs.declared.turn.Turn.{Turn}
 use Rattle.alm_session.specs.declared.turn.Turn.TheVariants as turn
 use Rattle.alm_serve.specs.Ports.{traffic_with}
 use Rattle.alm_serve.specs.Service.{Attends, Settles, TurnServes, stage}
-use Rattle.alm_serve.specs.StreamWires.{input_of}
+use Rattle.alm_serve.specs.StreamWires.{wire_input}
 use Rattle.alm_serve.specs.declared.connection.Connection.{Connection}
 use Rattle.alm_serve.specs.declared.connection.Connection.TheVariants.{Awaited, Open, Ended}
 use Rattle.alm_serve.specs.declared.served.Served.{Served}
@@ -44,7 +44,7 @@ any_least p = record {
 }
 
 module _ {S T : Type 0} {g : Ghosts T} (looks : Looks) (base : Condensed) (session later : Session) (knew knows : List Action) (before after : Console T g) where
-  -- the slot's side, by its connection and the bytes of those before it
+  -- the slot's side, by its connection and the bytes that its port keeps
   abbrev old_side : Connection (StreamWire S) → Traffic → SlotState
   old_side connection kept = slot_state session knew (record { came = (traffic_with connection kept).came; coming = None }) (traffic_with connection kept).written (sent_of before) (heard_by before)
 
@@ -55,14 +55,14 @@ module _ {S T : Type 0} {g : Ghosts T} (looks : Looks) (base : Condensed) (sessi
   abbrev Turned : (StreamWire S → Turn → StreamWire S → Type 0) → StreamWire S → Served (StreamWire S) → Connection (StreamWire S) → Type 0
   Turned More wire result next =
       (turn : Turn) × ((now : StreamWire S) × TurnServes turn now result next
-      × IsTurn looks base (least_of turn) (slot_state session knew (input_of wire) wire.traffic.written.bytes (sent_of before) (heard_by before)) (slot_state later knows (input_of now) now.traffic.written.bytes (sent_of after) (heard_by after)) × More wire turn now)
+      × IsTurn looks base (least_of turn) (slot_state session knew (wire_input wire) wire.traffic.written.bytes (sent_of before) (heard_by before)) (slot_state later knows (wire_input now) now.traffic.written.bytes (sent_of after) (heard_by after)) × More wire turn now)
 
   -- the receipts of one that has ended, and more of it
   abbrev Dropped : Type 0 → Served (StreamWire S) → Connection (StreamWire S) → Type 0
   Dropped More result next =
       Settles result next after × (later ≡ session) × (sent_of after ≡ sent_of before) × IsDrained base knew (heard_by before) knows (heard_by after) × More
 
-  -- the bytes of those before are those of a wire that was closed, else what they were
+  -- the port keeps the bytes of a wire that was closed, else what it kept before
   abbrev Keeps : Served (StreamWire S) → Traffic → Traffic → Type 0
   Keeps (served.Closed wire) kept left = left ≡ wire.traffic
   Keeps other kept left = left ≡ kept

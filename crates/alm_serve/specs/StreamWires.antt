@@ -16,8 +16,8 @@ Asks read.Blocked buffer old new = new ≡ old
 Asks read.Failed buffer old new = new ≡ old
 
 module _ {S : Type 0} where
-  abbrev pub counts_of : StreamWire S → Counts
-  counts_of wire = record { blocked_reads = wire.blocked_reads; blocked_writes = wire.blocked_writes; failed = wire.failed }
+  abbrev pub wire_counts : StreamWire S → Counts
+  wire_counts wire = record { blocked_reads = wire.blocked_reads; blocked_writes = wire.blocked_writes; failed = wire.failed }
 
-  abbrev pub input_of : StreamWire S → WireInput
-  input_of wire = record { came = wire.traffic.came.bytes; coming = None }
+  abbrev pub wire_input : StreamWire S → WireInput
+  wire_input wire = record { came = wire.traffic.came.bytes; coming = None }

@@ -90,18 +90,18 @@ fn is_for_later(kind: ErrorKind) -> bool
 impl<S: Read + Write + Drop> Wire for StreamWire<S> {
     ghost use Rattle.std.specs.Prelude.{◌≡◌, length};
     ghost use Rattle.alm_session.specs.Wires.{ReadBytes, ReadCounts, WriteBytes, WriteCounts};
-    ghost use Rattle.alm_serve.specs.StreamWires.{Asks, counts_of, input_of};
+    ghost use Rattle.alm_serve.specs.StreamWires.{Asks, wire_counts, wire_input};
 
-    ghost counts = { λ w. counts_of w };
+    ghost counts = { λ w. wire_counts w };
 
-    ghost input = { λ w. input_of w };
+    ghost input = { λ w. wire_input w };
 
     ghost written = { λ w. w.traffic.written.bytes };
 
     fn read(&mut self, into: &mut [u8]) -> ReadGave
-        ensures counts { ReadCounts result (length into.new) (counts_of self.old)
-            (counts_of self.new) }
-        ensures input { ReadBytes result into.new (input_of self.old) (input_of self.new) }
+        ensures counts { ReadCounts result (length into.new) (wire_counts self.old)
+            (wire_counts self.new) }
+        ensures input { ReadBytes result into.new (wire_input self.old) (wire_input self.new) }
         ensures written { self.new.traffic.written ≡ self.old.traffic.written }
         ensures before { self.new.before ≡ self.old.before }
         ensures here { Asks result into.new self.old.here self.new.here }
@@ -134,11 +134,11 @@ impl<S: Read + Write + Drop> Wire for StreamWire<S> {
     }
 
     fn write(&mut self, bytes: &[u8]) -> WriteTook
-        ensures counts { WriteCounts result (length bytes.now) (counts_of self.old)
-            (counts_of self.new) }
+        ensures counts { WriteCounts result (length bytes.now) (wire_counts self.old)
+            (wire_counts self.new) }
         ensures written { WriteBytes result bytes.now self.old.traffic.written.bytes
             self.new.traffic.written.bytes }
-        ensures input { input_of self.new ≡ input_of self.old }
+        ensures input { wire_input self.new ≡ wire_input self.old }
         ensures before { self.new.before ≡ self.old.before }
         ensures here { self.new.here ≡ self.old.here }
     {
