@@ -23,6 +23,7 @@ It needs root, /dev/fuse, loop devices, mkfs.ext4 and a C compiler. Without them
 """
 import collections
 import concurrent.futures
+import functools
 import itertools
 import os
 import queue
@@ -60,6 +61,7 @@ BEFORE, RUN, AFTER = 150, 64, 34
 BODIES = {"ignores": "ignores a failed sync", "keeps": "never lets the kernel forget"}
 RESTART = 1.0  # seconds, as in the unit
 PARALLEL = 4  # disks
+ATTEMPTS = 4  # until one loses what it should
 
 
 def draw_course(seed, count):
@@ -301,13 +303,23 @@ def try_ways(writeback, gates, first, step):
     return counts
 
 
+def lost_by(attempt):
+    """What is wrong in the first of some attempts that loses answered actions; nothing where none does. A kernel that
+    is short of memory may forget by itself what such a way has it keep."""
+    for _ in range(ATTEMPTS):
+        found = attempt()
+        if any("lost" in one for one in found):
+            return found
+    return []
+
+
 def try_bodies(writeback, gates):
     """Goes some ways with the wrong bodies. How many were refused."""
     counts = {}
     for body, does in BODIES.items():
-        found = writeback.all("ext4", gates, body)
+        found = lost_by(functools.partial(writeback.all, "ext4", gates, body))
         losing = sum("lost" in one for one in found)
-        check(losing, "a program that", does, "isn't refused:", found)
+        check(losing, "a program that", does, "isn't refused")
         counts[f"of a program that {does}"] = f"{len(found)} of {len(gates)} refused ({losing} lose answered actions)"
     return counts
 
@@ -318,8 +330,9 @@ def try_cached(writeback, gates):
     kept = [(how, call, at) for how in ("mapped", "read") for _, call, at in gates]
     wrong = writeback.all("ext4", kept, kind=CachedWay)
     check(not wrong, "with the file kept in the cache:", summary(wrong, len(kept)))
-    found = writeback.all("ext4", [("mapped, no tool", call, at) for _, call, at in gates], kind=CachedWay)
-    check(any("lost" in one for one in found), "with the file mapped, and without the tool, nothing is lost:", found)
+    bare = [("mapped, no tool", call, at) for _, call, at in gates]
+    found = lost_by(lambda: writeback.all("ext4", bare, kind=CachedWay))
+    check(found, "with the file mapped, and without the tool, nothing is lost")
     return {
         "with the file mapped or read": f"{len(kept)}",
         "with it mapped, and without the tool": f"{len(found)} of {len(gates)} refused",
