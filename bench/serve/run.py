@@ -11,7 +11,8 @@ PROGRAM runs as NAME_VERSION too, before it, over a device of that version. The 
 with. Each fdatasync sleeps 0.2 ms (sync.c), and with --disk longer, a microsecond for so many
 bytes. Servers and clients run under one scheduling class (SCHED_RR), each load of each server on a new device, the
 servers in turn, another of them first in each turn: who comes behind the last one of the turn before is some 2 %
-slower. A turn of which the host stole more than 5 % is made again, twice at most.
+slower. The same program under two names shows what the order and chance make. A turn of which the host stole more than
+5 % is made again, twice at most.
 
 Loads (--loads takes names, and beginnings of names): closed_1, closed_4, closed_18 clients with one request out;
 closed_18_64 with 64; apart_18, closed_18 with a thread for each client, where one thread serves all in the others;
