@@ -9,8 +9,8 @@ use Rattle.alm_disk.specs.Device.{DeviceState, IsImage}
 use Rattle.alm_model.specs.Plant.{Condensed}
 use Rattle.alm_model.specs.Step.{run}
 use Rattle.alm_model.specs.Judging.{accepted_of, when_accepted}
-use Rattle.alm_board.specs.Fronts.{IsFront}
-use Rattle.alm_board.proofs.FrontLaws.{front_more, front_of, front_self, front_shorter, front_trans}
+use Rattle.alm_board.specs.PrefixesOf.{IsPrefixOf}
+use Rattle.alm_board.proofs.PrefixOfLaws.{prefix_of_more, prefix_of_joined, prefix_of_self, prefix_of_shorter, prefix_of_trans}
 use Rattle.alm_flush.specs.declared.held.Held.TheVariants as V
 use Rattle.alm_flush.proofs.HeldLaws.{published_split}
 use Rattle.alm_pipeline.specs.declared.step.Step.{Step}
@@ -26,7 +26,7 @@ use Rattle.alm_pipeline.proofs.Runs.{at_end}
 -- a list of actions that every later plant begins with
 pub record Holds (w : World) (list : List Action) : Type 0 where
   pub reaches : w.base.panel.count + length list ≤ w.floor
-  pub front : IsFront list w.accepted
+  pub prefix : IsPrefixOf list w.accepted
 
 -- ---- no step changes the base
 
@@ -69,9 +69,9 @@ run_base w (x ∷ steps) (y ∷ trace) = run_base (after_step w x y) steps trace
 
 -- ---- what is held stays
 
-front_taken : (list accepted : List Action) (m : ℕ) → length list ≤ m → m ≤ length accepted → IsFront list accepted → IsFront list (take m accepted)
-front_taken list accepted m long within front =
-    front_shorter list (take m accepted) accepted front (front_of (take m accepted) (drop m accepted) accepted (take-append-drop m accepted)) (omega (arith, long, length-take-le m accepted within))
+prefix_taken : (list accepted : List Action) (m : ℕ) → length list ≤ m → m ≤ length accepted → IsPrefixOf list accepted → IsPrefixOf list (take m accepted)
+prefix_taken list accepted m long within prefix =
+    prefix_of_shorter list (take m accepted) accepted prefix (prefix_of_joined (take m accepted) (drop m accepted) accepted (take-append-drop m accepted)) (omega (arith, long, length-take-le m accepted within))
 
 pub raised_more : (floor : ℕ) (notes : List Note) → floor ≤ raise floor notes
 raised_more floor [] = omega arith
@@ -79,47 +79,47 @@ raised_more floor (note ∷ notes) = omega arith
 
 fetched_holds : (w : World) (sealed : List (List Entry)) (list : List Action) → Holds w list → Holds (fetches w sealed) list
 fetched_holds w [] list h = h
-fetched_holds w (entries ∷ sealed) list h = record { reaches = h.reaches; front = h.front }
+fetched_holds w (entries ∷ sealed) list h = record { reaches = h.reaches; prefix = h.prefix }
 
 stored_holds : (w : World) (stage : BatchStage) (list : List Action) → Holds w list → Holds (stores w stage) list
 stored_holds w Nothing list h = h
-stored_holds w (Held entries) list h = record { reaches = h.reaches; front = h.front }
+stored_holds w (Held entries) list h = record { reaches = h.reaches; prefix = h.prefix }
 stored_holds w (Stored entries) list h = h
 stored_holds w (Shown entries n) list h = h
 
 shown_holds : (w : World) (stage : BatchStage) (list : List Action) → Holds w list → Holds (after_publish w stage) list
 shown_holds w Nothing list h = h
 shown_holds w (Held entries) list h = h
-shown_holds w (Stored entries) list h = record { reaches = h.reaches; front = h.front }
+shown_holds w (Stored entries) list h = record { reaches = h.reaches; prefix = h.prefix }
 shown_holds w (Shown entries n) list h = h
 
 -- whatever a step answers
 pub holds_on : (w : World) (step : Step) (event : StepEvent) (list : List Action) → Answers w step event → Holds w list → Holds (after_step w step event) list
-holds_on w (Send slot a) (Sent serial) list answers h = record { reaches = h.reaches; front = h.front }
+holds_on w (Send slot a) (Sent serial) list answers h = record { reaches = h.reaches; prefix = h.prefix }
 holds_on w (Take slot) (Took v) list answers h =
-    record { reaches = h.reaches; front = front_more list w.accepted (accepted_of (entry_for w slot (slice_get (w.sent slot) (w.taken slot)) v)) h.front }
-holds_on w Seal Sealed list answers h = record { reaches = h.reaches; front = h.front }
+    record { reaches = h.reaches; prefix = prefix_of_more list w.accepted (accepted_of (entry_for w slot (slice_get (w.sent slot) (w.taken slot)) v)) h.prefix }
+holds_on w Seal Sealed list answers h = record { reaches = h.reaches; prefix = h.prefix }
 holds_on w Fetch Fetched list answers h = fetched_holds w w.sealed list h
 holds_on w Call Committed list answers h = stored_holds w w.stage list h
-holds_on w Call Failed list answers h = record { reaches = h.reaches; front = h.front }
+holds_on w Call Failed list answers h = record { reaches = h.reaches; prefix = h.prefix }
 holds_on w Publish Published list answers h = shown_holds w w.stage list h
-holds_on w Release (Released slot) list answers h = record { reaches = omega (arith, h.reaches, raised_more w.floor (next_notes w w.stage)); front = h.front }
-holds_on w GiveBack GaveBack list answers h = record { reaches = h.reaches; front = h.front }
-holds_on w (Receive slot) (Received serial verdict number) list answers h = record { reaches = h.reaches; front = h.front }
-holds_on w (Look slot query) (Looked count) list answers h = record { reaches = omega (arith, h.reaches); front = h.front }
-holds_on w (Crash bytes) Crashed list answers h = record { reaches = h.reaches; front = h.front }
+holds_on w Release (Released slot) list answers h = record { reaches = omega (arith, h.reaches, raised_more w.floor (next_notes w w.stage)); prefix = h.prefix }
+holds_on w GiveBack GaveBack list answers h = record { reaches = h.reaches; prefix = h.prefix }
+holds_on w (Receive slot) (Received serial verdict number) list answers h = record { reaches = h.reaches; prefix = h.prefix }
+holds_on w (Look slot query) (Looked count) list answers h = record { reaches = omega (arith, h.reaches); prefix = h.prefix }
+holds_on w (Crash bytes) Crashed list answers h = record { reaches = h.reaches; prefix = h.prefix }
 holds_on w Reopen (Opened n) list answers h =
-    record { reaches = h.reaches; front = front_taken list w.accepted (n - w.base.panel.count) (omega (arith, h.reaches, answers.1)) (omega (arith, answers.2)) h.front }
+    record { reaches = h.reaches; prefix = prefix_taken list w.accepted (n - w.base.panel.count) (omega (arith, h.reaches, answers.1)) (omega (arith, answers.2)) h.prefix }
 holds_on w step event list answers h = h
 
 -- ---- what is reported is held
 
-published_front : (w : World) (list : List Action) → InOrder w → IsFront list w.published → IsFront list w.accepted
-published_front w list i front =
-    front_trans list w.published w.accepted front
-    (front_trans w.published w.stored w.accepted
-    (front_of w.published (accepted_of (ready_at w.stage)) w.stored (sym i.ready))
-    (front_of w.stored (accepted_of (waiting_at w.stage) ++ (accepted_of (flat_of w.sealed) ++ accepted_of w.taking)) w.accepted (sym i.all)))
+published_prefix : (w : World) (list : List Action) → InOrder w → IsPrefixOf list w.published → IsPrefixOf list w.accepted
+published_prefix w list i prefix =
+    prefix_of_trans list w.published w.accepted prefix
+    (prefix_of_trans w.published w.stored w.accepted
+    (prefix_of_joined w.published (accepted_of (ready_at w.stage)) w.stored (sym i.ready))
+    (prefix_of_joined w.stored (accepted_of (waiting_at w.stage) ++ (accepted_of (flat_of w.sealed) ++ accepted_of w.taking)) w.accepted (sym i.all)))
 
 ends_with : (v : Verdict) (before taken : List Action) → EndsWith v (before ++ (taken ++ when_accepted v))
 ends_with (Accepted a) before taken = (before ++ taken, sym (append_assoc before taken (a ∷ [])))
@@ -135,7 +135,7 @@ told_at w entries n e stage next i =
     let split : accepted_of entries ≡ taken ++ (when_accepted e.verdict ++ left) = published_split [] (V.Published (record { first = 1; entries = entries }) n) e next in
     let shown : w.published ≡ list ++ left =
     i.shown ∙ (ap (λ s. i.before ++ accepted_of (shown_at s)) stage ∙ (ap (λ l. i.before ++ l) (split ∙ sym (append_assoc taken (when_accepted e.verdict) left)) ∙ sym (append_assoc i.before (taken ++ when_accepted e.verdict) left))) in
-    (list, (omega (arith, ap length shown, length-append list left), published_front w list i (front_of list left w.published (sym shown)), ends_with e.verdict i.before taken))
+    (list, (omega (arith, ap length shown, length-append list left), published_prefix w list i (prefix_of_joined list left w.published (sym shown)), ends_with e.verdict i.before taken))
 
 entry_tells : (w : World) (slot : ℕ) (entries : List Entry) (n : ℕ) (o : Option Entry) → w.stage ≡ Shown entries n → slice_get entries n ≡ o → goes_to o slot → InOrder w
     → (list : List Action) × TellsUpTo w (note_of w entries n o) list
@@ -155,15 +155,15 @@ reaches_up_to : (w : World) (notes : List Note) (list : List Action) → TellsUp
 reaches_up_to w [] list tells = absurd tells
 reaches_up_to w (note ∷ notes) list tells = omega (arith, tells.0)
 
-front_up_to : (w : World) (notes : List Note) (list : List Action) → TellsUpTo w notes list → IsFront list w.accepted
-front_up_to w [] list tells = absurd tells
-front_up_to w (note ∷ notes) list tells = tells.1
+prefix_up_to : (w : World) (notes : List Note) (list : List Action) → TellsUpTo w notes list → IsPrefixOf list w.accepted
+prefix_up_to w [] list tells = absurd tells
+prefix_up_to w (note ∷ notes) list tells = tells.1
 
 pub tells_holds : (w : World) (step : Step) (event : StepEvent) (list : List Action) → Answers w step event → InOrder w → Tells w step event list → Holds (after_step w step event) list
-tells_holds w Release (Released slot) list answers i tells = record { reaches = reaches_up_to w (next_notes w w.stage) list tells; front = front_up_to w (next_notes w w.stage) list tells }
+tells_holds w Release (Released slot) list answers i tells = record { reaches = reaches_up_to w (next_notes w w.stage) list tells; prefix = prefix_up_to w (next_notes w w.stage) list tells }
 tells_holds w (Look slot query) (Looked count) list answers i tells = record {
   reaches = omega (arith, answers.1, ap length tells);
-  front = published_front w list i (subst (λ (l : List Action). IsFront l w.published) (sym tells) (front_self w.published));
+  prefix = published_prefix w list i (subst (λ (l : List Action). IsPrefixOf l w.published) (sym tells) (prefix_of_self w.published));
 }
 tells_holds w step event list answers i tells = absurd tells
 
@@ -193,15 +193,15 @@ module _ (recovers : List ℕ → Condensed → Type 0) (spent : DeviceState →
   split_run w d last (x ∷ steps) behind [] rest step event same run = absurd (omega (arith, same))
 
   recovered : (w : World) (last : Sight) (list : List Action) → Headline recovers spent w last.state → Holds w list → (image : List ℕ) (q : Condensed) → IsImage last.state image → recovers image q
-      → (front : List Action) × (q ≡ run w.base front) × IsFront list front
+      → (prefix : List Action) × (q ≡ run w.base prefix) × IsPrefixOf list prefix
   recovered w last list headline h image q is r =
       let f = (headline image is).each q r in
       let m = q.panel.count - w.base.panel.count in
-      (take m w.accepted, f.plant, front_taken list w.accepted m (omega (arith, h.reaches, f.enough)) (omega (arith, f.no_more)) h.front)
+      (take m w.accepted, f.plant, prefix_taken list w.accepted m (omega (arith, h.reaches, f.enough)) (omega (arith, f.no_more)) h.prefix)
 
   pub told_is_recovered : (w : World) (d last : Sight) (steps behind : List Step) (trace rest : List StepEvent) (step : Step) (event : StepEvent) (list : List Action) → InOrder w → length steps ≡ length trace
       → IsRun recovers spent w d (steps ++ step ∷ behind) (trace ++ event ∷ rest) last → Tells (after_steps w steps trace) step event list
-      → (image : List ℕ) (q : Condensed) → IsImage last.state image → recovers image q → (front : List Action) × (q ≡ run w.base front) × IsFront list front
+      → (image : List ℕ) (q : Condensed) → IsImage last.state image → recovers image q → (prefix : List Action) × (q ≡ run w.base prefix) × IsPrefixOf list prefix
   told_is_recovered w d last steps behind trace rest step event list i same ran tells image q is r =
       let s = split_run w d last steps behind trace rest step event same ran in
       let at = after_steps w steps trace in

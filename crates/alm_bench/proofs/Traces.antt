@@ -16,7 +16,7 @@ use Rattle.alm_pipeline.specs.declared.step.Step.TheVariants.{Send, Take, Seal, 
 use Rattle.alm_pipeline.specs.declared.step_event.StepEvent.{StepEvent}
 use Rattle.alm_pipeline.specs.declared.step_event.StepEvent.TheVariants.{Sent, Busy, Took, Sealed, Fetched, More, Committed, Failed, Published, Released, GaveBack, Received, Looked, Crashed, Opened, Unopened, Skipped}
 use Rattle.alm_pipeline.specs.World.{World, Note, BatchStage, Nothing, Held, Stored, Shown, Answers, after_step, entry_for, fetches, judges, next_notes, note_of, raise, says, after_publish, stores, tells}
-use Rattle.alm_store.specs.Recovery.{IsFrontPlant, IsSafe}
+use Rattle.alm_store.specs.Recovery.{IsPrefixPlant, IsSafe}
 use Rattle.alm_pipeline.specs.Headline.{Sight, IsRun, after_steps}
 use Rattle.alm_pipeline.proofs.Runs.{at_end}
 use Rattle.alm_bench.specs.Traced.{accepted_from, told_by, told_in, with_event}
@@ -222,8 +222,8 @@ module _ (recovers : List ℕ → Condensed → Type 0) (spent : DeviceState →
   follows w d last [] (y ∷ trace) run t = absurd run
   follows w d last (x ∷ steps) [] run t = absurd run
 
-  lower : (base : Condensed) (accepted : List Action) (floor told : ℕ) (q : Condensed) → told ≤ floor → IsFrontPlant base accepted floor q → IsFrontPlant base accepted told q
-  lower base accepted floor told q less front = record { enough = omega (arith, less, front.enough); no_more = front.no_more; plant = front.plant }
+  lower : (base : Condensed) (accepted : List Action) (floor told : ℕ) (q : Condensed) → told ≤ floor → IsPrefixPlant base accepted floor q → IsPrefixPlant base accepted told q
+  lower base accepted floor told q less prefix = record { enough = omega (arith, less, prefix.enough); no_more = prefix.no_more; plant = prefix.plant }
 
   safe_at : (base : Condensed) (accepted : List Action) (floor told : ℕ) (image : List ℕ) → told ≤ floor → IsSafe recovers base accepted floor image → IsSafe recovers base accepted told image
   safe_at base accepted floor told image less safe = record { some = safe.some; each = λ q r. lower base accepted floor told q less (safe.each q r); lists = safe.lists }

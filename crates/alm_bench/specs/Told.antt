@@ -3,7 +3,7 @@ use Rattle.std.specs.Prelude.{◌≡◌, ◌+◌, List, [], ◌∷◌, ◌++◌,
 use Rattle.alm_types.specs.declared.action.Action.{Action}
 use Rattle.alm_types.specs.declared.verdict.Verdict.{Verdict}
 use Rattle.alm_types.specs.declared.verdict.Verdict.TheVariants.{Accepted, Refused}
-use Rattle.alm_board.specs.Fronts.{IsFront}
+use Rattle.alm_board.specs.PrefixesOf.{IsPrefixOf}
 use Rattle.alm_pipeline.specs.declared.step.Step.{Step}
 use Rattle.alm_pipeline.specs.declared.step.Step.TheVariants.{Release, Look}
 use Rattle.alm_pipeline.specs.declared.step_event.StepEvent.{StepEvent}
@@ -19,7 +19,7 @@ EndsWith (Refused r n) list = Unit {0}
 -- says
 abbrev pub TellsUpTo : World → List Note → List Action → Type 0
 TellsUpTo w [] list = ⊥
-TellsUpTo w (note ∷ notes) list = (w.base.panel.count + length list ≡ note.number) × IsFront list w.accepted × EndsWith note.verdict list
+TellsUpTo w (note ∷ notes) list = (w.base.panel.count + length list ≡ note.number) × IsPrefixOf list w.accepted × EndsWith note.verdict list
 
 -- this step, with this answer, reports these actions: a reply that is released, those up to its request; a look, those that it
 -- shows

@@ -6,7 +6,7 @@ ghost use Rattle.alm_types.specs.declared.query.Query.{Query};
 ghost use Rattle.alm_disk.specs.Device.{IsImage};
 ghost use Rattle.alm_model.specs.Plant.{Condensed};
 ghost use Rattle.alm_model.specs.Step.{run};
-ghost use Rattle.alm_board.specs.Fronts.{IsFront};
+ghost use Rattle.alm_board.specs.PrefixesOf.{IsPrefixOf};
 ghost use Rattle.alm_keeper.specs.AsStore.{StandsFor, IsLastEpoch};
 ghost use Rattle.alm_pipeline.specs.World.{first, closed_world};
 ghost use Rattle.alm_pipeline.specs.Headline.{Sight, IsRun, after_steps};
@@ -39,7 +39,7 @@ pub fn what_was_told_is_recovered()
         Tells (after_steps (closed_world (first plant)) steps trace) step event told →
         (image : List ℕ) (recovered : Condensed) → IsImage last.state image →
         StandsFor image recovered →
-        (actions : List Action) × (recovered ≡ run plant actions) × IsFront told actions }
+        (actions : List Action) × (recovered ≡ run plant actions) × IsPrefixOf told actions }
 {}
 
 /// Each reply that is released in a run reports such a list: as many actions as its number says beyond the first plant's. If its

@@ -1,5 +1,5 @@
 pub mod Boards
-pub mod Fronts
+pub mod PrefixesOf
 pub mod Logs
 pub mod Looks
 pub mod Recalls

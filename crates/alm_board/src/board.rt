@@ -41,7 +41,7 @@ pub trait Publish<C, V: Voucher>: Board {
     ghost use Rattle.alm_model.specs.Judging.{accepted_of, logged_of};
     ghost use Rattle.alm_model.specs.Rules.{AllAdmitted};
     ghost use Rattle.alm_model.specs.Step.{run};
-    ghost use Rattle.alm_board.specs.Fronts.{IsFront};
+    ghost use Rattle.alm_board.specs.PrefixesOf.{IsPrefixOf};
 
     /// It takes no memory.
     ghost sure: { Type 0 };
@@ -51,7 +51,7 @@ pub trait Publish<C, V: Voucher>: Board {
     fn publish(&mut self, by: &C, voucher: &V, batch: &Batch) -> Result<(), AllocError>
         requires admitted { AllAdmitted (run (Self.base self.old) (Self.published self.old))
             (accepted_of batch.now.entries) }
-        requires same { IsFront (Self.pending self.old) (logged_of batch.now.entries) }
+        requires same { IsPrefixOf (Self.pending self.old) (logged_of batch.now.entries) }
         requires vouched { V.vouches voucher.now
             (Self.published self.old ++ accepted_of batch.now.entries) }
         ensures base { Self.base self.new ≡ Self.base self.old }
@@ -62,7 +62,7 @@ pub trait Publish<C, V: Voucher>: Board {
             (Self.logged self.new ≡ Self.logged self.old ++ logged_of batch.now.entries) }
         ensures err { OnErr result
             ((Self.published self.new ≡ Self.published self.old) ×
-            IsFront (Self.pending self.new) (logged_of batch.now.entries)) }
+            IsPrefixOf (Self.pending self.new) (logged_of batch.now.entries)) }
         ensures kept { OnErr result (Self.logged self.new ≡ Self.logged self.old) }
         ensures sure { sure → IsOk result };
 }

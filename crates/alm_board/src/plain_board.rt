@@ -29,7 +29,7 @@ impl<P: Alarms + Drop> PlainBoard<P> {
     ghost use Rattle.std.specs.Prelude.{◌≡◌, ◌++◌, [], ◌∷◌, None};
     ghost use Rattle.alm_model.specs.Accept.{refusal};
     ghost use Rattle.alm_board.specs.Boards.{board_base, logged_by, published_of, saw_of};
-    ghost use Rattle.alm_board.specs.Fronts.{IsFront};
+    ghost use Rattle.alm_board.specs.PrefixesOf.{IsPrefixOf};
 
     /// A board with no published actions yet.
     pub fn new(plant: P) -> Self
@@ -47,7 +47,7 @@ impl<P: Alarms + Drop> PlainBoard<P> {
 
     /// Lends the board to a slot that saw this of it.
     pub fn looker(&self, seen: Seen) -> PlainLook<'_, P>
-        requires { IsFront (saw_of seen) (published_of self.now) }
+        requires { IsPrefixOf (saw_of seen) (published_of self.now) }
         ensures board { result.board.now ≡ self.now }
         ensures seen { result.seen ≡ seen }
     {

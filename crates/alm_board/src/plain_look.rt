@@ -1,7 +1,7 @@
 //! A slot's view of a plain board.
 
 ghost use Rattle.alm_board.specs.Logs.{actions_of};
-ghost use Rattle.alm_board.specs.Fronts.{IsFront};
+ghost use Rattle.alm_board.specs.PrefixesOf.{IsPrefixOf};
 
 use crate::board::Board;
 use crate::look::Look;
@@ -16,7 +16,7 @@ use alm_types::{Answer, Query, Refusal};
 pub struct PlainLook<'a, P: Alarms + Drop> {
     pub(crate) board: &'a PlainBoard<P>,
     pub(crate) seen: Seen,
-    ghost of_the_board: { IsFront (actions_of seen.list.value) (actions_of board.now.log) },
+    ghost of_the_board: { IsPrefixOf (actions_of seen.list.value) (actions_of board.now.log) },
 }
 
 impl<P: Alarms + Drop> PlainLook<'_, P> {
@@ -36,7 +36,7 @@ impl<P: Alarms + Drop> Look for PlainLook<'_, P> {
     ghost use Rattle.alm_model.specs.Step.{run};
     ghost use Rattle.alm_board.specs.Logs.{actions_of};
     ghost use Rattle.alm_board.specs.Looks.{LookAnswers};
-    ghost use Rattle.alm_board.specs.Fronts.{IsFront};
+    ghost use Rattle.alm_board.specs.PrefixesOf.{IsPrefixOf};
 
     type Told = PlainTold;
 
@@ -45,12 +45,12 @@ impl<P: Alarms + Drop> Look for PlainLook<'_, P> {
     ghost knows = { λ look. actions_of look.seen.list.value };
 
     ghost may_take = { λ look told.
-        IsFront (actions_of told.list.value) (actions_of look.board.now.log) };
+        IsPrefixOf (actions_of told.list.value) (actions_of look.board.now.log) };
 
     fn look(&mut self, query: Query, answer: &mut Answer) -> Result<u64, Refusal>
         ensures base { P.plant self.new.board.now.base.value ≡
             P.plant self.old.board.now.base.value }
-        ensures later { IsFront (actions_of self.old.seen.list.value)
+        ensures later { IsPrefixOf (actions_of self.old.seen.list.value)
             (actions_of self.new.seen.list.value) }
         ensures answer { LookAnswers (P.plant self.old.board.now.base.value)
             (actions_of self.old.seen.list.value) (actions_of self.new.seen.list.value) query
@@ -75,12 +75,12 @@ impl<P: Alarms + Drop> Look for PlainLook<'_, P> {
     }
 
     fn take_in(&mut self, told: PlainTold)
-        requires { IsFront (actions_of told.list.value) (actions_of self.old.board.now.log) }
+        requires { IsPrefixOf (actions_of told.list.value) (actions_of self.old.board.now.log) }
         ensures base { P.plant self.new.board.now.base.value ≡
             P.plant self.old.board.now.base.value }
-        ensures later { IsFront (actions_of self.old.seen.list.value)
+        ensures later { IsPrefixOf (actions_of self.old.seen.list.value)
             (actions_of self.new.seen.list.value) }
-        ensures told { IsFront (actions_of told.list.value) (actions_of self.new.seen.list.value) }
+        ensures told { IsPrefixOf (actions_of told.list.value) (actions_of self.new.seen.list.value) }
         ensures board { self.new.board.now ≡ self.old.board.now }
     {
         let PlainTold {

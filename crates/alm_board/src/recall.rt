@@ -12,7 +12,7 @@ pub trait Recall: Look {
     ghost use Rattle.alm_model.specs.Judging.{logged_actions};
     ghost use Rattle.alm_events.specs.Events.{most_told};
     ghost use Rattle.alm_events.specs.declared.recalled.Recalled.{Recalled};
-    ghost use Rattle.alm_board.specs.Fronts.{IsFront};
+    ghost use Rattle.alm_board.specs.PrefixesOf.{IsPrefixOf};
     ghost use Rattle.alm_board.specs.Recalls.{RecallAnswers};
 
     /// The published actions that it knows, each with its request.
@@ -26,7 +26,7 @@ pub trait Recall: Look {
     fn recall(&mut self, after: Option<u64>, events: &mut Vec<Event>) -> Result<Recalled, Refusal>
         requires { most_told ≤ vec_capacity events.old }
         ensures base { Self.Look.base self.new ≡ Self.Look.base self.old }
-        ensures later { IsFront (logged self.old) (logged self.new) }
+        ensures later { IsPrefixOf (logged self.old) (logged self.new) }
         ensures known { (logged_actions (logged self.old) ≡ Self.Look.knows self.old) ×
             (logged_actions (logged self.new) ≡ Self.Look.knows self.new) }
         ensures answer { RecallAnswers (Self.Look.base self.old) (logged self.old) (logged self.new)

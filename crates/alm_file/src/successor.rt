@@ -15,7 +15,7 @@ use std::os::unix::fs::{MetadataExt, OpenOptionsExt, fchown};
 use std::path::{Path, PathBuf};
 
 /// What the name of a successor has after that of the device's file.
-const BESIDE: &str = ".upgrade";
+const SUFFIX: &str = ".upgrade";
 
 /// A new file that is to take the place of a device's file. It lies next to that until then, and has its owner and its permissions.
 #[derive(Drop)]
@@ -23,15 +23,15 @@ pub struct Successor {
     /// The path of the device's file, without a symbolic link in it.
     device: PathBuf,
     /// That of the new file.
-    beside: PathBuf,
+    path: PathBuf,
     /// Which file the device's is, its owner and its permissions.
     found: Metadata,
 }
 
 /// The path of the new file, next to that of the device's file.
-fn beside<R: AllocGlobal>(rt: &R, path: &str) -> io::Result<PathBuf> {
+fn path_next_to<R: AllocGlobal>(rt: &R, path: &str) -> io::Result<PathBuf> {
     let mut text = String::from_str(rt.alloc(), path)?;
-    text.push_str(BESIDE)?;
+    text.push_str(SUFFIX)?;
     Ok(PathBuf::from_str(rt.alloc(), text.as_str())?)
 }
 
@@ -45,10 +45,10 @@ impl Successor {
     ) -> Result<Successor, FileFault> {
         let found = device.file.metadata()?;
         let device = rt.canonicalize(rt.alloc(), path)?;
-        let beside = beside(rt, device.as_str())?;
+        let path = path_next_to(rt, device.as_str())?;
         Ok(Successor {
             device,
-            beside,
+            path,
             found,
         })
     }
@@ -68,7 +68,7 @@ impl Successor {
         ensures size { IfOk result (λ d. ⟦<FileDisk<S> as Disk>⟧.size d ≡ size) }
         ensures count { IfOk result (λ d. ⟦<FileDisk<S> as Disk>⟧.failures d ≡ 0) }
     {
-        match rt.remove_file(self.beside.as_str()) {
+        match rt.remove_file(self.path.as_str()) {
             Err(error) if error.kind() != ErrorKind::NotFound => return Err(FileFault::Io(error)),
             _ => {}
         }
@@ -92,7 +92,7 @@ impl Successor {
         ensures size { IfOk result (λ d. ⟦<FileDisk<S> as Disk>⟧.size d ≡ size) }
         ensures count { IfOk result (λ d. ⟦<FileDisk<S> as Disk>⟧.failures d ≡ 0) }
     {
-        let path = self.beside.as_str();
+        let path = self.path.as_str();
         let mut options = OpenOptions::new();
         options.read(true).write(true).create_new(true).mode(MODE);
         let file = open_apart(rt, &options, path)?;
@@ -107,11 +107,11 @@ impl Successor {
         let device = self.device.as_str();
         Place::new(rt, device, &self.found).look()?;
         let folder = self.device.parent().unwrap_or(Path::new("/"));
-        rename_within(rt, folder.as_str(), self.beside.as_str(), device)
+        rename_within(rt, folder.as_str(), self.path.as_str(), device)
     }
 
     /// Removes the new file. If the system refuses that, the next one that is made there does.
     pub fn give_up<R: Files<File = File>>(&self, rt: &R) {
-        let _ = rt.remove_file(self.beside.as_str());
+        let _ = rt.remove_file(self.path.as_str());
     }
 }

@@ -17,8 +17,8 @@ use Rattle.alm_rings.specs.Ends.{released_of}
 use Rattle.alm_rings.specs.Placed.{AreApart, released_in, released_by}
 use Rattle.alm_rings.proofs.Slots.{set_cases}
 use Rattle.std.specs.Prelude.{slice_set}
-use Rattle.alm_board.specs.Fronts.{IsFront}
-use Rattle.alm_board.proofs.FrontLaws.{front_self, front_of}
+use Rattle.alm_board.specs.PrefixesOf.{IsPrefixOf}
+use Rattle.alm_board.proofs.PrefixOfLaws.{prefix_of_self, prefix_of_joined}
 use Rattle.alm_flush.specs.Replies.{RequestVerdict, replies_to, replies_in}
 use Rattle.alm_flush.specs.HeldBatch.{batches_of, waiting_of, ready_of, stored_of, published_entries, released_entries, next_entry_of, after_release, left_of}
 use Rattle.alm_flush.specs.declared.held.Held.{Held}
@@ -161,12 +161,12 @@ ready_pass (Committed b) = refl
 ready_pass (Published b n) = refl
 
 -- what is shown is a prefix of what is stored
-pub shown_front : (before : List Entry) (h : Held) → IsFront (accepted_of (before ++ published_entries h)) (accepted_of (before ++ stored_of h))
-shown_front before Nothing = front_self (accepted_of (before ++ []))
-shown_front before (Fetched b) = front_self (accepted_of (before ++ []))
-shown_front before (Failed b) = front_self (accepted_of (before ++ []))
-shown_front before (Committed b) = front_of (accepted_of (before ++ [])) (accepted_of b.entries) (accepted_of (before ++ b.entries)) (accepted_more before b.entries)
-shown_front before (Published b n) = front_self (accepted_of (before ++ b.entries))
+pub shown_prefix : (before : List Entry) (h : Held) → IsPrefixOf (accepted_of (before ++ published_entries h)) (accepted_of (before ++ stored_of h))
+shown_prefix before Nothing = prefix_of_self (accepted_of (before ++ []))
+shown_prefix before (Fetched b) = prefix_of_self (accepted_of (before ++ []))
+shown_prefix before (Failed b) = prefix_of_self (accepted_of (before ++ []))
+shown_prefix before (Committed b) = prefix_of_joined (accepted_of (before ++ [])) (accepted_of b.entries) (accepted_of (before ++ b.entries)) (accepted_more before b.entries)
+shown_prefix before (Published b n) = prefix_of_self (accepted_of (before ++ b.entries))
 
 -- the verdicts that are released are of what is stored
 told_fewer : (h : Held) → length (accepted_of (released_entries h)) ≤ length (accepted_of (stored_of h))
@@ -202,9 +202,9 @@ replies_snoc [] e = refl
 replies_snoc (x ∷ xs) e = ap (λ (l : List RequestVerdict). record { slot = x.slot; serial = x.serial; verdict = x.verdict } ∷ l) (replies_snoc xs e)
 
 -- what is nothing begins with nothing, which begins everything
-pub front_nothing : {A : Type 0} (xs ys : List A) → IsFront xs [] → IsFront xs ys
-front_nothing [] ys front = refl
-front_nothing (x ∷ xs) ys front = absurd cc
+pub prefix_nothing : {A : Type 0} (xs ys : List A) → IsPrefixOf xs [] → IsPrefixOf xs ys
+prefix_nothing [] ys prefix = refl
+prefix_nothing (x ∷ xs) ys prefix = absurd cc
 
 module _ {T : Type 0} {g : Ghosts T} where
   pub replied_snoc : (rs : List (Receipt T g)) (r : Receipt T g) → replies_in (rs ++ r ∷ []) ≡ replies_in rs ++ record { slot = r.slot; serial = r.serial; verdict = r.verdict } ∷ []

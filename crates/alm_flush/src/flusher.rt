@@ -8,7 +8,7 @@ ghost use Rattle.alm_rings.specs.declared.outbox.Outbox.{Outbox};
 ghost use Rattle.alm_rings.specs.declared.receipt.Receipt.{Receipt};
 ghost use Rattle.alm_rings.specs.Batches.{fetched_of};
 ghost use Rattle.alm_rings.specs.Placed.{released_by};
-ghost use Rattle.alm_board.specs.Fronts.{IsFront};
+ghost use Rattle.alm_board.specs.PrefixesOf.{IsPrefixOf};
 ghost use Rattle.alm_store.specs.declared.phase.Phase.TheVariants.{Committing};
 ghost use Rattle.alm_flush.specs.HeldBatch.{batches_of, waiting_of, ready_of, stored_of, published_entries, released_entries};
 ghost use Rattle.alm_flush.specs.Replies.{replies_in, replies_to};
@@ -57,7 +57,7 @@ pub struct Flusher<K: Store, T: Told + Drop, B: Board<Told = T>> {
     /// with the requests of those entries,
     pub ghost logged: { B.logged board ≡
         logged_of (entries_in (fetched_of before.value) ++ published_entries held) },
-    pub ghost pending: { IsFront (B.pending board) (logged_of (ready_of held)) },
+    pub ghost pending: { IsPrefixOf (B.pending board) (logged_of (ready_of held)) },
     /// and what is released to each slot.
     pub ghost released: { (s : ℕ) →
         replies_in (released_by s outboxes.items) ≡
@@ -504,9 +504,9 @@ impl<K: Store, T: Told + Drop, B: Board<Told = T>> Flusher<K, T, B> {
     /// stored.
     pub fn keeper(&self) -> &K
         ensures keeper { result.now ≡ self.now.store }
-        ensures front { (list : List Action) ×
+        ensures prefix { (list : List Action) ×
             (((K.state self.now.store).stored ≡ run (B.base self.now.board) list) ×
-            IsFront (B.published self.now.board) list) }
+            IsPrefixOf (B.published self.now.board) list) }
         ensures numbers { (s k : ℕ) (r : Receipt _ _) →
             slice_get (released_by s self.now.outboxes.items) k ≡ Some r →
             r.number ≤ (K.state self.now.store).stored.panel.count }

@@ -12,8 +12,8 @@ use Rattle.alm_disk.specs.Device.{DeviceState, AreBytes, IsImage, byte_at}
 use Rattle.alm_model.specs.Plant.{Condensed}
 use Rattle.alm_model.specs.Rules.{KeepsRules}
 use Rattle.alm_store.specs.Calls.{IsCall}
-use Rattle.alm_store.specs.Recovery.{IsFrontPlant, IsSafe}
-use Rattle.alm_store.proofs.Recovery.{safe_by, front_is}
+use Rattle.alm_store.specs.Recovery.{IsPrefixPlant, IsSafe}
+use Rattle.alm_store.proofs.Recovery.{safe_by, prefix_is}
 use Rattle.alm_model.specs.Step.{run}
 use Rattle.alm_moments.specs.declared.recorded_moment.RecordedMoment.{RecordedMoment}
 use Rattle.alm_moments.specs.Moments.{first_values, moment_of, device_at, IsDevice, IsNextMoment, FollowOn, last_of, opening_moment, IsSafeMoment, AreMoments, AreHeld, StaysStored, now_of}
@@ -148,12 +148,12 @@ by_call m d e accepted floor is call = inl ((d, e, (ap (λ x. x.bytes) is, ap (�
 
 -- none was made: more may have been accepted, and the floor raised
 pub by_none : (m : RecordedMoment) (d e : DeviceState) (accepted more : List Action) (floor higher : ℕ) → m ≡ moment_of d accepted floor → e ≡ d → IsPrefix accepted more → floor ≤ higher → IsNextMoment m (moment_of e more higher)
-by_none m d e accepted more floor higher is same front le =
+by_none m d e accepted more floor higher is same prefix le =
     inr (
       ap (λ x. x.bytes) same ∙ sym (ap (λ x. x.bytes) is),
       ap (λ x. first_values (length x.bytes) x.pending) same ∙ sym (ap (λ x. x.pending) is),
       ap (λ x. x.faulted) same ∙ sym (ap (λ x. x.faulted) is),
-      subst (λ (l : List Action). IsPrefix l more) (sym (ap (λ x. x.accepted) is)) front,
+      subst (λ (l : List Action). IsPrefix l more) (sym (ap (λ x. x.accepted) is)) prefix,
       omega (arith, ap (λ x. x.floor) is, le),
     )
 
@@ -163,7 +163,7 @@ pub stands_safe : (recovers kept : List ℕ → Condensed → Type 0)
     → ((b : List ℕ) (p : Condensed) → AreBytes b → kept b p → KeepsRules p)
     → ∥ ((b : List ℕ) (p : Condensed) → (recovers b p ↔ kept b p)) ∥₁
     → (base : Condensed) (accepted : List Action) (floor : ℕ) (d : DeviceState) (stored next : Condensed)
-    → ∥ IsFrontPlant base accepted floor stored ∥₁ → ∥ IsFrontPlant base accepted floor next ∥₁
+    → ∥ IsPrefixPlant base accepted floor stored ∥₁ → ∥ IsPrefixPlant base accepted floor next ∥₁
     → ((image : List ℕ) → IsImage d image → ∥ kept image stored ⊎ kept image next ∥₁)
     → ∥ IsSafeMoment recovers base (moment_of d accepted floor) ∥₁
 stands_safe recovers kept one rules same base accepted floor d stored next old new stands =
@@ -175,8 +175,8 @@ stands_safe recovers kept one rules same base accepted floor d stored next old n
     (λ b p bytes r. rules b p bytes ((s b p).0 r)))))
 
 -- before anything is accepted
-pub first_front : (base q : Condensed) → base ≡ q → ∥ IsFrontPlant base [] base.panel.count q ∥₁
-first_front base q is = ∣ subst (λ (p : Condensed). IsFrontPlant base [] base.panel.count p) is (front_is base [] base.panel.count [] [] refl (omega arith)) ∣₁
+pub first_prefix : (base q : Condensed) → base ≡ q → ∥ IsPrefixPlant base [] base.panel.count q ∥₁
+first_prefix base q is = ∣ subst (λ (p : Condensed). IsPrefixPlant base [] base.panel.count p) is (prefix_is base [] base.panel.count [] [] refl (omega arith)) ∣₁
 
 pub opened : (honest : Type 0) (recovers : List ℕ → Condensed → Type 0) (base : Condensed) (first : DeviceState) → (honest → ∥ IsSafeMoment recovers base (opening_moment base first) ∥₁) → AreMoments honest recovers base first []
 opened honest recovers base first safe = λ h. ∥∥₁_map (safe h) (λ s. record { opened = s; leads = tt })
@@ -193,21 +193,21 @@ pub named_opened : (honest own : Type 0) (recovers kept : List ℕ → Condensed
 named_opened honest own recovers kept one rules same both base stored next first device is idle at stands =
     opened honest recovers base first (λ h. ∥∥₁_elim both (hlevel props) (λ s.
     stands_safe recovers kept one rules same base [] base.panel.count first stored next
-    (first_front base stored is) (first_front base next (is ∙ sym idle))
+    (first_prefix base stored is) (first_prefix base next (is ∙ sym idle))
     (subst (λ (d : DeviceState). (image : List ℕ) → IsImage d image → ∥ kept image stored ⊎ kept image next ∥₁) (sym at) (stands (s.0 h)))))
 
 -- a plant that a prefix of all makes, and that reaches a list: the list and more after it make it
-contains : (base plant : Condensed) (list all : List Action) → IsPrefix list all → IsFrontPlant base all (base.panel.count + length list) plant
+contains : (base plant : Condensed) (list all : List Action) → IsPrefix list all → IsPrefixPlant base all (base.panel.count + length list) plant
     → (more : List Action) × (plant ≡ run base (list ++ more)) × IsPrefix (list ++ more) all
-contains base plant list all front f =
+contains base plant list all prefix f =
     let n = plant.panel.count - base.panel.count in
     let rest = n - length list in
     let long : n ≡ length list + rest = omega (arith, f.enough) in
-    let taken : take n all ≡ list ++ take rest front.0 =
-    ap (λ (l : List Action). take n l) (sym front.1) ∙ (ap (λ k. take k (list ++ front.0)) long ∙ take-append-add list front.0 rest) in (
-      take rest front.0,
+    let taken : take n all ≡ list ++ take rest prefix.0 =
+    ap (λ (l : List Action). take n l) (sym prefix.1) ∙ (ap (λ k. take k (list ++ prefix.0)) long ∙ take-append-add list prefix.0 rest) in (
+      take rest prefix.0,
       f.plant ∙ ap (λ (l : List Action). run base l) taken,
-      (drop rest front.0, append_assoc list (take rest front.0) (drop rest front.0) ∙ (ap (λ l. list ++ l) (take-append-drop rest front.0) ∙ front.1)),
+      (drop rest prefix.0, append_assoc list (take rest prefix.0) (drop rest prefix.0) ∙ (ap (λ l. list ++ l) (take-append-drop rest prefix.0) ∙ prefix.1)),
     )
 
 -- the law: what is held at moments is stored at each later one

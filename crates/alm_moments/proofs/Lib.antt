@@ -1,2 +1,2 @@
 pub mod Courses
-pub mod Fronts
+pub mod Prefixes

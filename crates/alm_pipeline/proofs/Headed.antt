@@ -21,8 +21,8 @@ use Rattle.alm_flush.specs.declared.held.Held.{Held}
 use Rattle.alm_flush.specs.declared.held.Held.TheVariants.{Nothing, Fetched, Failed, Committed, Published}
 use Rattle.alm_pipeline.specs.declared.pipeline.Pipeline.{Pipeline}
 use Rattle.alm_pipeline.specs.World.{World}
-use Rattle.alm_store.specs.Recovery.{IsFrontPlant}
-use Rattle.alm_store.proofs.Recovery.{front_prop, front_is, safe_by}
+use Rattle.alm_store.specs.Recovery.{IsPrefixPlant}
+use Rattle.alm_store.proofs.Recovery.{prefix_prop, prefix_is, safe_by}
 use Rattle.alm_pipeline.specs.Headline.{Headline}
 use Rattle.alm_pipeline.specs.Matches.{entries_of, MatchesWorld}
 
@@ -81,8 +81,8 @@ history_split before fetched sealed h waiting taking held is =
 
 module _ {K D : Type 0} {g : Ghosts K D} {d : Disk.Ghosts D} where
   -- the stored plant, and the one of the commit
-  pub stored_front : (w : World) (p : Pipeline K D g d) → MatchesWorld w p → IsFrontPlant w.base w.accepted w.floor (g.state p.flusher.store).stored × IsFrontPlant w.base w.accepted w.floor (run (g.state p.flusher.store).stored (accepted_of (waiting_of p.flusher.held)))
-  stored_front w p f =
+  pub stored_prefix : (w : World) (p : Pipeline K D g d) → MatchesWorld w p → IsPrefixPlant w.base w.accepted w.floor (g.state p.flusher.store).stored × IsPrefixPlant w.base w.accepted w.floor (run (g.state p.flusher.store).stored (accepted_of (waiting_of p.flusher.held)))
+  stored_prefix w p f =
       let l = f.lists in
       let before = entries_in (fetched_of p.flusher.before.value) in
       let stored = accepted_of (before ++ stored_of p.flusher.held) in
@@ -92,12 +92,12 @@ module _ {K D : Type 0} {g : Ghosts K D} {d : Disk.Ghosts D} where
       p.flusher.stored ∙ (ap (λ (q : Condensed). run q stored) l.stored_from ∙ (sym (run_append w.base l.opened stored) ∙ ap (run w.base) (sym l.kept))) in
       let whole : (w.stored ++ waiting) ++ split.0 ≡ w.accepted =
       ap (λ x. (x ++ waiting) ++ split.0) l.kept ∙ (ap (λ x. x ++ split.0) (append_assoc l.opened stored waiting) ∙ (append_assoc l.opened (stored ++ waiting) split.0 ∙ (ap (λ x. l.opened ++ x) (sym split.1) ∙ sym l.all))) in
-      let front : w.stored ++ (waiting ++ split.0) ≡ w.accepted = sym (append_assoc w.stored waiting split.0) ∙ whole in
+      let prefix : w.stored ++ (waiting ++ split.0) ≡ w.accepted = sym (append_assoc w.stored waiting split.0) ∙ whole in
       let enough : w.floor ≤ w.base.panel.count + length w.stored =
       omega (arith, l.enough, ap length l.shown, ap length l.kept, length-append l.opened stored, length-append l.opened (accepted_of (before ++ published_entries p.flusher.held)), shown_le before p.flusher.held) in (
-        subst (IsFrontPlant w.base w.accepted w.floor) (sym plant) (front_is w.base w.accepted w.floor w.stored (waiting ++ split.0) front enough),
-        subst (IsFrontPlant w.base w.accepted w.floor) (sym (ap (λ (q : Condensed). run q waiting) plant ∙ sym (run_append w.base w.stored waiting)))
-            (front_is w.base w.accepted w.floor (w.stored ++ waiting) split.0 whole (omega (arith, enough, length-append w.stored waiting))),
+        subst (IsPrefixPlant w.base w.accepted w.floor) (sym plant) (prefix_is w.base w.accepted w.floor w.stored (waiting ++ split.0) prefix enough),
+        subst (IsPrefixPlant w.base w.accepted w.floor) (sym (ap (λ (q : Condensed). run q waiting) plant ∙ sym (run_append w.base w.stored waiting)))
+            (prefix_is w.base w.accepted w.floor (w.stored ++ waiting) split.0 whole (omega (arith, enough, length-append w.stored waiting))),
       )
 
   pub headline : (w : World) (p : Pipeline K D g d) → MatchesWorld w p
@@ -107,10 +107,10 @@ module _ {K D : Type 0} {g : Ghosts K D} {d : Disk.Ghosts D} where
       → Headline g.recovers g.spent w (d.state (g.disk p.flusher.store))
   headline w p f stands one rules image is =
       let st = p.flusher.store in
-      let both = stored_front w p f in
+      let both = stored_prefix w p f in
       let waiting = accepted_of (waiting_of p.flusher.held) in
-      let Front = IsFrontPlant w.base w.accepted w.floor in
-      let next : Front (g.state st).next = ∥∥₁_elim p.flusher.either (front_prop w.base w.accepted w.floor (g.state st).next) (⊎_elim
-      (λ (same : (g.state st).next ≡ (g.state st).stored). subst Front (sym same) both.0)
-      (λ (more : (g.state st).next ≡ run (g.state st).stored waiting). subst Front (sym more) both.1)) in
+      let ActionPrefix = IsPrefixPlant w.base w.accepted w.floor in
+      let next : ActionPrefix (g.state st).next = ∥∥₁_elim p.flusher.either (prefix_prop w.base w.accepted w.floor (g.state st).next) (⊎_elim
+      (λ (same : (g.state st).next ≡ (g.state st).stored). subst ActionPrefix (sym same) both.0)
+      (λ (more : (g.state st).next ≡ run (g.state st).stored waiting). subst ActionPrefix (sym more) both.1)) in
       safe_by g.recovers w.base w.accepted w.floor (g.state st).stored (g.state st).next image is.bytes both.0 next (stands image is) one rules

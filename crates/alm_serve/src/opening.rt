@@ -49,7 +49,7 @@ fn bells_of(alloc: Global, bounds: &[Bound]) -> Result<Vec<SlotBell>, PortFault>
 {
     let mut bells = Vec::with_capacity(alloc, bounds.len())?;
     for bound in bounds {
-        match bells.push(bound.bell.again()?) {
+        match bells.push(bound.bell.clone()?) {
             Ok(()) => {}
             Err(_) => return Err(PortFault::OutOfMemory),
         }

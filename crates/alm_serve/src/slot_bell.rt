@@ -23,14 +23,6 @@ impl SlotBell {
         })
     }
 
-    /// The same bell.
-    pub fn again(&self) -> Result<Self, AllocError> {
-        Ok(SlotBell {
-            listens: self.listens.clone()?,
-            waker: self.waker.clone()?,
-        })
-    }
-
     /// From now on it wakes the next poll. Work that came before may not have rung: check once more before polling.
     pub fn listen(&self) {
         self.listens.store(true, Ordering::SeqCst);
@@ -44,6 +36,16 @@ impl SlotBell {
     /// The thread is awake.
     pub fn attend(&self) {
         self.listens.store(false, Ordering::SeqCst);
+    }
+}
+
+// The same bell.
+impl Clone for SlotBell {
+    fn clone(&self) -> Result<Self, AllocError> {
+        Ok(SlotBell {
+            listens: self.listens.clone()?,
+            waker: self.waker.clone()?,
+        })
     }
 }
 

@@ -41,7 +41,7 @@ denies looks base old new id asked before after Stopped (same, unchanged, there)
   known = (made, same, there);
   refused = ap (λ (a : Answer). a.refused) unchanged;
 }
-denies looks base old new id asked before after OutOfMemory (same, (list, (front, is))) made =
+denies looks base old new id asked before after OutOfMemory (same, (list, (prefix, is))) made =
     let shown = ap (λ (b : Bool). if b then no_text id OutOfMemory else report_reply id (run base list).panel.count asked (look (run base list) asked)) is.0 in
     record {
       met = look_refused id asked list NoMemory;
@@ -49,7 +49,7 @@ denies looks base old new id asked before after OutOfMemory (same, (list, (front
       slip = refl;
       heard = refl;
       plain = refl;
-      known = ((_, made, shown), front, same);
+      known = ((_, made, shown), prefix, same);
       refused = is.1.2 ∙ sym (ap (λ (b : Bool). if b then one_more before.refused else before.refused) is.0);
     }
 denies looks base old new id asked before after refusal refused made =

@@ -3,7 +3,7 @@ use Rattle.std.proofs.Common.{◌≡◌, List, [], ◌∷◌, ◌++◌, refl, ap
 use Rattle.std.specs.Prelude.{map}
 use Rattle.std.proofs.lemmas.List.{append-nil, map-append}
 use Rattle.alm_types.specs.declared.action.Action.{Action}
-use Rattle.alm_board.specs.Fronts.{IsFront}
+use Rattle.alm_board.specs.PrefixesOf.{IsPrefixOf}
 use Rattle.alm_model.specs.Plant.{Condensed}
 use Rattle.alm_session.specs.Turns.{LineAnswer, unasked, LearnsAll, no_looks}
 use Rattle.alm_session.specs.Unanswered.{Heard}
@@ -13,7 +13,7 @@ use Rattle.alm_session.proofs.Joins.{knows-append}
 pub drained_none : (base : Condensed) (known : List Action) (heard heards : List Heard) → heards ≡ heard → IsDrained base known heard known heards
 drained_none base known heard heards e = record { got = []; all = e ∙ sym (append-nil heard); learnt = refl }
 
-pub drained_one : (base : Condensed) (known knows : List Action) (heard heards : List Heard) (h : Heard) → heards ≡ heard ++ h ∷ [] → IsFront known knows → IsFront h.list knows → IsDrained base known heard knows heards
+pub drained_one : (base : Condensed) (known knows : List Action) (heard heards : List Heard) (h : Heard) → heards ≡ heard ++ h ∷ [] → IsPrefixOf known knows → IsPrefixOf h.list knows → IsDrained base known heard knows heards
 drained_one base known knows heard heards h e later told = record { got = h ∷ []; all = e; learnt = (knows, ((later, told), refl)) }
 
 pub drained_more : {base : Condensed} {k l m : List Action} {x y z : List Heard} → IsDrained base k x l y → IsDrained base l y m z → IsDrained base k x m z

@@ -14,18 +14,18 @@ use Rattle.alm_events.specs.Events.{asked_after, told_after, events_from}
 use Rattle.alm_events.specs.declared.recalled.Recalled.{Recalled}
 use Rattle.alm_lines.specs.Reply.{no_text}
 use Rattle.alm_lines.specs.Since.{recalled_text}
-use Rattle.alm_board.specs.Fronts.{IsFront}
+use Rattle.alm_board.specs.PrefixesOf.{IsPrefixOf}
 use Rattle.alm_board.specs.Recalls.{RecallAnswers, TellsAfter}
-use Rattle.alm_board.proofs.FrontLaws.{front_of, rest_of}
+use Rattle.alm_board.proofs.PrefixOfLaws.{prefix_of_joined, rest_of}
 use Rattle.alm_session.specs.Turns.{LineAnswer, forgotten, recall_stopped, by_recall, answer_text, recall, recalled_of, since_told, kinds, heards, unasked_receipts, Learns, Looks, refused_next}
 
 -- actions of a prefix are a prefix
-pub actions_front : (xs ys : List LoggedAction) → IsFront xs ys → IsFront (logged_actions xs) (logged_actions ys)
-actions_front xs ys front =
-    front_of (logged_actions xs) (logged_actions (drop (length xs) ys)) (logged_actions ys) (sym (actions_append xs (drop (length xs) ys)) ∙ ap logged_actions (rest_of xs ys front))
+pub actions_prefix : (xs ys : List LoggedAction) → IsPrefixOf xs ys → IsPrefixOf (logged_actions xs) (logged_actions ys)
+actions_prefix xs ys prefix =
+    prefix_of_joined (logged_actions xs) (logged_actions (drop (length xs) ys)) (logged_actions ys) (sym (actions_append xs (drop (length xs) ys)) ∙ ap logged_actions (rest_of xs ys prefix))
 
-known_front : (known : List Action) (xs ys : List LoggedAction) → logged_actions xs ≡ known → IsFront xs ys → IsFront known (logged_actions ys)
-known_front known xs ys same front = subst (λ l. IsFront l (logged_actions ys)) same (actions_front xs ys front)
+known_prefix : (known : List Action) (xs ys : List LoggedAction) → logged_actions xs ≡ known → IsPrefixOf xs ys → IsPrefixOf known (logged_actions ys)
+known_prefix known xs ys same prefix = subst (λ l. IsPrefixOf l (logged_actions ys)) same (actions_prefix xs ys prefix)
 
 -- at most 256 events are reported
 pub few_told : (base : Condensed) (list : List LoggedAction) (n : ℕ) (events : List Event) → events ≡ told_after base list n → length events ≤ 256
@@ -44,9 +44,9 @@ told_text base id list n events told t =
     ∙ (ap (λ f. recalled_text id (base.panel.count + length list) f events) t.first ∙ ap (λ es. recalled_text id (base.panel.count + length list) (one_more n) es) t.events_are)
 
 pub tells : (looks : Looks) (base : Condensed) (known next : List Action) (old new : List LoggedAction) (id : ℕ) (after : Option ℕ) (events : List Event) (told : Recalled)
-    → logged_actions old ≡ known → logged_actions new ≡ next → IsFront old new → TellsAfter base new (asked_after base new after) events told → looks.recalled after (Ok told) → Learns looks base known (by_recall id after new) next
-tells looks base known next old new id after events told was is front t made =
-    (subst (λ (r : Recalled). looks.recalled after (Ok r)) (told_is base new (asked_after base new after) events told t) made, t.remembered, known_front known old new was front, sym is)
+    → logged_actions old ≡ known → logged_actions new ≡ next → IsPrefixOf old new → TellsAfter base new (asked_after base new after) events told → looks.recalled after (Ok told) → Learns looks base known (by_recall id after new) next
+tells looks base known next old new id after events told was is prefix t made =
+    (subst (λ (r : Recalled). looks.recalled after (Ok r)) (told_is base new (asked_after base new after) events told t) made, t.remembered, known_prefix known old new was prefix, sym is)
 
 -- a recall that is refused answers its line
 pub record IsUntold (looks : Looks) (base : Condensed) (known next : List Action) (id : ℕ) (after : Option ℕ) (refusal : Refusal) : Type 0 where
@@ -60,13 +60,13 @@ pub record IsUntold (looks : Looks) (base : Condensed) (known next : List Action
 
 pub untold : (looks : Looks) (base : Condensed) (known next : List Action) (old new : List LoggedAction) (id : ℕ) (after : Option ℕ) (before events : List Event) (refusal : Refusal)
     → logged_actions old ≡ known → logged_actions new ≡ next → RecallAnswers base old new after before events (Err refusal) → looks.recalled after (Err refusal) → IsUntold looks base known next id after refusal
-untold looks base known next old new id after before events Forgotten was is (same, unchanged, (list, (front, gone))) made = record {
+untold looks base known next old new id after before events Forgotten was is (same, unchanged, (list, (prefix, gone))) made = record {
   met = forgotten id after list;
   text = refl;
   slip = refl;
   heard = refl;
   plain = refl;
-  learnt = (made, gone, known_front known old list was front, sym is ∙ (ap logged_actions same ∙ was));
+  learnt = (made, gone, known_prefix known old list was prefix, sym is ∙ (ap logged_actions same ∙ was));
   refused = λ n. refl;
 }
 untold looks base known next old new id after before events Stopped was is (same, unchanged) made = record {

@@ -9,7 +9,7 @@ use Rattle.alm_types.specs.declared.want.Want.{Want}
 use Rattle.alm_model.specs.Plant.{Condensed}
 use Rattle.alm_lines.specs.declared.line.Line.{Line}
 use Rattle.alm_lines.specs.Stream.{held_behind}
-use Rattle.alm_board.specs.Fronts.{IsFront}
+use Rattle.alm_board.specs.PrefixesOf.{IsPrefixOf}
 use Rattle.alm_session.specs.Intakes.{Untaken, lines_from, lines_in, open_in}
 use Rattle.alm_session.specs.Wires.{WireInput, Gives}
 use Rattle.alm_session.specs.Turns.{LineAnswer, by_receipt, by_look, look_refused, no_room, stopped, bad_line, unasked, answer_text, LineKind, waiting_kind, line_kind, kinds, heards, unasked_receipts, wants, LearnsAll, Learns, refused_next, refused_over, SlotState, IsTurn, Looks, no_looks, by_recall, forgotten, recall_stopped}
@@ -50,7 +50,7 @@ still {looks} base a b lines opens waiting left known input written sent heard r
 }
 
 -- a receipt answers the first line that waits
-pub answered : {looks : Looks} (base : Condensed) (a b : SlotState) (w : Unanswered) (h : Heard) → b.held ≡ a.held → a.waiting ≡ w ∷ b.waiting → b.left ≡ a.left ++ answer_text base (by_receipt w h) → IsFront a.known b.known → IsFront h.list b.known
+pub answered : {looks : Looks} (base : Condensed) (a b : SlotState) (w : Unanswered) (h : Heard) → b.held ≡ a.held → a.waiting ≡ w ∷ b.waiting → b.left ≡ a.left ++ answer_text base (by_receipt w h) → IsPrefixOf a.known b.known → IsPrefixOf h.list b.known
     → IsAnsweredBy w h → b.input ≡ a.input → b.written ≡ a.written → b.sent ≡ a.sent → b.heard ≡ a.heard ++ h ∷ [] → b.refused ≡ a.refused → IsTurn looks base 1 a b
 answered {looks} base a b w h held waiting left known learnt is input written sent heard refused = record {
   got = [];
@@ -79,7 +79,7 @@ nothing_of [] e = refl
 nothing_of (x ∷ xs) e = (let bad_line : ◌≡◌ {A = ℕ} 1 0 = omega (arith, e) in no_one bad_line)
 
 -- a receipt comes that is of no action that waits first
-pub strayed : {looks : Looks} (base : Condensed) (a b : SlotState) (h : Heard) → b.held ≡ a.held → b.waiting ≡ a.waiting → b.left ≡ a.left → IsFront a.known b.known → IsFront h.list b.known
+pub strayed : {looks : Looks} (base : Condensed) (a b : SlotState) (h : Heard) → b.held ≡ a.held → b.waiting ≡ a.waiting → b.left ≡ a.left → IsPrefixOf a.known b.known → IsPrefixOf h.list b.known
     → b.input ≡ a.input → b.written ≡ a.written → b.sent ≡ a.sent → b.heard ≡ a.heard ++ h ∷ [] → b.refused ≡ a.refused → IsTurn looks base 1 a b
 strayed {looks} base a b h held waits left known learnt input written sent heard refused = record {
   got = [];

@@ -23,7 +23,7 @@ use Rattle.alm_lines.specs.Since.{recalled_text}
 use Rattle.alm_desk.specs.Answers.{verdict_reply, look_reply, refused_by}
 use Rattle.alm_desk.specs.declared.hindrance.Hindrance.{Hindrance}
 use Rattle.alm_desk.specs.declared.hindrance.Hindrance.TheVariants.{Nothing}
-use Rattle.alm_board.specs.Fronts.{IsFront}
+use Rattle.alm_board.specs.PrefixesOf.{IsPrefixOf}
 use Rattle.alm_session.specs.Intakes.{Untaken, lines_from, lines_in, open_in}
 use Rattle.alm_session.specs.Outputs.{output_limit}
 use Rattle.alm_session.specs.Unanswered.{Heard, IsAnsweredBy}
@@ -151,22 +151,22 @@ wants line = wants_at line.ask
 -- what is known before and after, by the looks that were made. Each is at a list that begins with all that was known before, and
 -- so with every list reported by an earlier receipt
 abbrev pub Learns : Looks → Condensed → List Action → LineAnswer → List Action → Type 0
-Learns looks base known (by_receipt request heard) next = IsFront known next × IsFront heard.list next × IsAnsweredBy request heard
-Learns looks base known (by_look id asked list) next = looks.looked asked (Ok (run base list).panel.count) × IsFront known list × (next ≡ list)
+Learns looks base known (by_receipt request heard) next = IsPrefixOf known next × IsPrefixOf heard.list next × IsAnsweredBy request heard
+Learns looks base known (by_look id asked list) next = looks.looked asked (Ok (run base list).panel.count) × IsPrefixOf known list × (next ≡ list)
 Learns looks base known (look_refused id asked list hindrance) next =
-    ((why : Refusal) × looks.looked asked (Err why) × (look_reply (run base list) id asked hindrance ≡ no_text id why)) × IsFront known list × (next ≡ known)
+    ((why : Refusal) × looks.looked asked (Err why) × (look_reply (run base list) id asked hindrance ≡ no_text id why)) × IsPrefixOf known list × (next ≡ known)
 Learns looks base known (no_room id asked list) next =
-    looks.looked asked (Ok (run base list).panel.count) × IsFront known list × (next ≡ list) × (output_limit < length (look_reply (run base list) id asked Nothing))
+    looks.looked asked (Ok (run base list).panel.count) × IsPrefixOf known list × (next ≡ list) × (output_limit < length (look_reply (run base list) id asked Nothing))
 Learns looks base known (stopped id asked) next = looks.looked asked (Err refusal.Stopped) × (next ≡ known) × IsOk (look base asked)
 Learns looks base known (by_recall id after list) next =
     looks.recalled after (Ok (recalled_of base list (asked_after base list after))) × (is_remembered base list (asked_after base list after) ≡ true)
-    × IsFront known (logged_actions list) × (next ≡ logged_actions list)
+    × IsPrefixOf known (logged_actions list) × (next ≡ logged_actions list)
 Learns looks base known (forgotten id after list) next =
     looks.recalled after (Err refusal.Forgotten) × (is_remembered base list (asked_after base list after) ≡ false)
-    × IsFront known (logged_actions list) × (next ≡ known)
+    × IsPrefixOf known (logged_actions list) × (next ≡ known)
 Learns looks base known (recall_stopped id after) next = looks.recalled after (Err refusal.Stopped) × (next ≡ known)
 Learns looks base known (bad_line id refusal) next = next ≡ known
-Learns looks base known (unasked heard) next = IsFront known next × IsFront heard.list next
+Learns looks base known (unasked heard) next = IsPrefixOf known next × IsPrefixOf heard.list next
 
 -- an action is answered by the receipt of its request
 abbrev pub IsByItsReceipt : LineAnswer → Type 0

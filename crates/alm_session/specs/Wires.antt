@@ -67,11 +67,11 @@ ReadGives read.Blocked before later old new = (later ≡ before) × (new ≡ old
 ReadGives read.Failed before later old new = (later ≡ before) × (new ≡ old)
 
 -- what was written is a prefix of what was left
-abbrev pub WritesFront : Sent → Unwritten → Unwritten → List ℕ → List ℕ → Type 0
-WritesFront sent.Nothing before later old new = (before.left ≡ []) × (later.left ≡ []) × (later.used ≡ 0) × (new ≡ old)
-WritesFront sent.Some before later old new = (later.used ≡ before.used) × ((n : ℕ) × (1 ≤ n) × (n ≤ length before.left) × (later.left ≡ drop n before.left) × (new ≡ old ++ take n before.left))
-WritesFront sent.Blocked before later old new = (later ≡ before) × (new ≡ old)
-WritesFront sent.Failed before later old new = (later ≡ before) × (new ≡ old)
+abbrev pub WritesPrefix : Sent → Unwritten → Unwritten → List ℕ → List ℕ → Type 0
+WritesPrefix sent.Nothing before later old new = (before.left ≡ []) × (later.left ≡ []) × (later.used ≡ 0) × (new ≡ old)
+WritesPrefix sent.Some before later old new = (later.used ≡ before.used) × ((n : ℕ) × (1 ≤ n) × (n ≤ length before.left) × (later.left ≡ drop n before.left) × (new ≡ old ++ take n before.left))
+WritesPrefix sent.Blocked before later old new = (later ≡ before) × (new ≡ old)
+WritesPrefix sent.Failed before later old new = (later ≡ before) × (new ≡ old)
 
 abbrev pub SentCounts : Sent → Counts → Counts → Type 0
 SentCounts sent.Nothing old new = new ≡ old

@@ -78,7 +78,7 @@ impl Output {
     ghost use Rattle.alm_types.specs.Reports.{report};
     ghost use Rattle.std.specs.Prelude.{true, false};
     ghost use Rattle.alm_session.specs.Outputs.{Unwritten};
-    ghost use Rattle.alm_session.specs.Wires.{WritesFront, SentCounts};
+    ghost use Rattle.alm_session.specs.Wires.{WritesPrefix, SentCounts};
 
     /// A buffer without bytes to write.
     pub fn new(alloc: Global) -> Result<Self, AllocError>
@@ -148,7 +148,7 @@ impl Output {
 
     /// Writes once, if there are bytes to write.
     pub fn write<W: Wire>(&mut self, wire: &mut W) -> Sent
-        ensures sends { WritesFront result self.old self.new (W.written wire.old)
+        ensures sends { WritesPrefix result self.old self.new (W.written wire.old)
             (W.written wire.new) }
         ensures counts { SentCounts result (W.counts wire.old) (W.counts wire.new) }
         ensures input { W.input wire.new ≡ W.input wire.old }

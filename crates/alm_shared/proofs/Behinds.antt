@@ -10,25 +10,25 @@ use Rattle.alm_model.specs.Rules.{AllAdmitted}
 use Rattle.alm_model.specs.Step.{run}
 use Rattle.alm_model.proofs.Runs.{run_append}
 use Rattle.alm_model.proofs.Legal.{actions_append, logged_append, admitted_append}
-use Rattle.alm_board.specs.Fronts.{IsFront}
-use Rattle.alm_board.proofs.FrontLaws.{front_of, front_trans, front_length, rest_of}
+use Rattle.alm_board.specs.PrefixesOf.{IsPrefixOf}
+use Rattle.alm_board.proofs.PrefixOfLaws.{prefix_of_joined, prefix_of_trans, prefix_of_length, rest_of}
 
-pub front_behind : {A : Type 0} (s xs ys : List A) → IsFront xs ys → IsFront (s ++ xs) (s ++ ys)
-front_behind s xs ys p = front_of (s ++ xs) (drop (length xs) ys) (s ++ ys) (append_assoc s xs (drop (length xs) ys) ∙ ap (λ l. s ++ l) (rest_of xs ys p))
+pub prefix_behind : {A : Type 0} (s xs ys : List A) → IsPrefixOf xs ys → IsPrefixOf (s ++ xs) (s ++ ys)
+prefix_behind s xs ys p = prefix_of_joined (s ++ xs) (drop (length xs) ys) (s ++ ys) (append_assoc s xs (drop (length xs) ys) ∙ ap (λ l. s ++ l) (rest_of xs ys p))
 
-pub logged_front : (xs : List Entry) (k : ℕ) → IsFront (logged_of (take k xs)) (logged_of xs)
-logged_front xs k = front_of (logged_of (take k xs)) (logged_of (drop k xs)) (logged_of xs) (sym (logged_append (take k xs) (drop k xs)) ∙ ap logged_of (take-append-drop k xs))
+pub logged_prefix : (xs : List Entry) (k : ℕ) → IsPrefixOf (logged_of (take k xs)) (logged_of xs)
+logged_prefix xs k = prefix_of_joined (logged_of (take k xs)) (logged_of (drop k xs)) (logged_of xs) (sym (logged_append (take k xs) (drop k xs)) ∙ ap logged_of (take-append-drop k xs))
 
 -- what begins a history, which continues after what is shown by the first of these actions, begins it also with all of them
-pub handed_front : {A : Type 0} (s h t acc : List A) → IsFront s h → IsFront h t → IsFront (drop (length s) t) acc → IsFront h (s ++ acc)
-handed_front s h t acc shown handed same =
-    let all : IsFront t (s ++ acc) = subst (λ (l : List _). IsFront l (s ++ acc)) (rest_of s t (front_trans s h t shown handed)) (front_behind s (drop (length s) t) acc same) in
-    front_trans h t (s ++ acc) handed all
+pub handed_prefix : {A : Type 0} (s h t acc : List A) → IsPrefixOf s h → IsPrefixOf h t → IsPrefixOf (drop (length s) t) acc → IsPrefixOf h (s ++ acc)
+handed_prefix s h t acc shown handed same =
+    let all : IsPrefixOf t (s ++ acc) = subst (λ (l : List _). IsPrefixOf l (s ++ acc)) (rest_of s t (prefix_of_trans s h t shown handed)) (prefix_behind s (drop (length s) t) acc same) in
+    prefix_of_trans h t (s ++ acc) handed all
 
 -- what was handed over of these actions after those that are shown, and the rest of them, are all
-pub handed_rest : {A : Type 0} (s h acc : List A) → IsFront s h → IsFront h (s ++ acc) → h ++ drop (length h - length s) acc ≡ s ++ acc
+pub handed_rest : {A : Type 0} (s h acc : List A) → IsPrefixOf s h → IsPrefixOf h (s ++ acc) → h ++ drop (length h - length s) acc ≡ s ++ acc
 handed_rest s h acc shown handed =
-    let long : length h ≡ length s + (length h - length s) = omega (arith, front_length s h shown) in
+    let long : length h ≡ length s + (length h - length s) = omega (arith, prefix_of_length s h shown) in
     let behind : drop (length h) (s ++ acc) ≡ drop (length h - length s) acc = ap (λ n. drop n (s ++ acc)) long ∙ drop-append-add s acc (length h - length s) in
     ap (λ l. h ++ l) (sym behind) ∙ rest_of h (s ++ acc) handed
 
@@ -42,12 +42,12 @@ one_passed before a n some =
     drop_all n (before ++ a ∷ []) (omega (arith, less, length-append before (a ∷ []))) ∙ sym (drop_all n before (omega (arith, less)))
 
 -- what a history, which continues after what is shown by the first of these actions, has to grow by
-module _ (s t acc : List LoggedAction) (shown : IsFront s t) (same : IsFront (drop (length s) t) acc) where
+module _ (s t acc : List LoggedAction) (shown : IsPrefixOf s t) (same : IsPrefixOf (drop (length s) t) acc) where
   long : length t - length s ≡ length (drop (length s) t)
   long = sym (length-drop (length s) t)
 
   pub rest_within : length t - length s ≤ length acc
-  rest_within = omega (arith, long, front_length (drop (length s) t) acc same)
+  rest_within = omega (arith, long, prefix_of_length (drop (length s) t) acc same)
 
   pub rest_admitted : (q : Condensed) → AllAdmitted (run q (logged_actions s)) (logged_actions acc) → AllAdmitted (run q (logged_actions t)) (logged_actions (drop (length t - length s) acc))
   rest_admitted q all =

@@ -19,9 +19,9 @@ use Rattle.alm_model.specs.declared.list.List.{List as Choice}
 use Rattle.alm_model.specs.declared.list.List.TheVariants as choice
 use Rattle.alm_model.specs.Step.{run}
 use Rattle.alm_model.proofs.Runs.{run_sizes, run_attrs}
-use Rattle.alm_board.specs.Fronts.{IsFront}
+use Rattle.alm_board.specs.PrefixesOf.{IsPrefixOf}
 use Rattle.alm_board.specs.Looks.{LookAnswers}
-use Rattle.alm_board.proofs.FrontLaws.{front_self}
+use Rattle.alm_board.proofs.PrefixOfLaws.{prefix_of_self}
 use Rattle.alm_shared.specs.Extents.{is_there, missing}
 
 a_row : (rows : List RowState) (i : ℕ) → i < length rows → IsOk (state_report (slice_get rows i))
@@ -102,19 +102,19 @@ refuses q (Row i) named same is list =
 
 -- what doesn't exist is refused by what is known
 pub missing_answers : (base : Condensed) (known : List Action) (query : Query) (answer : Answer) → ((list : List Action) → look (run base list) query ≡ Err (missing query)) → LookAnswers base known known query answer answer (Err (missing query))
-missing_answers base known (State i) answer none = (refl, (known, (front_self known, (none known, refl))))
-missing_answers base known (Flood area) answer none = (refl, (known, (front_self known, (none known, refl))))
-missing_answers base known (Area area) answer none = (refl, (known, (front_self known, (none known, refl))))
-missing_answers base known (Priority n) answer none = (refl, (known, (front_self known, (none known, refl))))
-missing_answers base known (Wheel slot) answer none = (refl, (known, (front_self known, (none known, refl))))
-missing_answers base known Stale answer none = (refl, (known, (front_self known, (none known, refl))))
-missing_answers base known Chatter answer none = (refl, (known, (front_self known, (none known, refl))))
-missing_answers base known Plant answer none = (refl, (known, (front_self known, (none known, refl))))
-missing_answers base known (Attributes i) answer none = (refl, (known, (front_self known, (none known, refl))))
-missing_answers base known (Row i) answer none = (refl, (known, (front_self known, (none known, refl))))
+missing_answers base known (State i) answer none = (refl, (known, (prefix_of_self known, (none known, refl))))
+missing_answers base known (Flood area) answer none = (refl, (known, (prefix_of_self known, (none known, refl))))
+missing_answers base known (Area area) answer none = (refl, (known, (prefix_of_self known, (none known, refl))))
+missing_answers base known (Priority n) answer none = (refl, (known, (prefix_of_self known, (none known, refl))))
+missing_answers base known (Wheel slot) answer none = (refl, (known, (prefix_of_self known, (none known, refl))))
+missing_answers base known Stale answer none = (refl, (known, (prefix_of_self known, (none known, refl))))
+missing_answers base known Chatter answer none = (refl, (known, (prefix_of_self known, (none known, refl))))
+missing_answers base known Plant answer none = (refl, (known, (prefix_of_self known, (none known, refl))))
+missing_answers base known (Attributes i) answer none = (refl, (known, (prefix_of_self known, (none known, refl))))
+missing_answers base known (Row i) answer none = (refl, (known, (prefix_of_self known, (none known, refl))))
 
 -- a look that is refused reports no more than was known
-pub refused_answers : (base : Condensed) (known list : List Action) (query : Query) (before after : Answer) (refusal : Refusal) → IsOk (look base query) → IsFront known list → IsLook (run base list) query before after (Err refusal) → LookAnswers base known known query before after (Err refusal)
-refused_answers base known list query before after Stopped there front is = (refl, is.1, there)
-refused_answers base known list query before after OutOfMemory there front is = (refl, (list, (front, is)))
-refused_answers base known list query before after refusal there front is = (refl, (list, (front, is)))
+pub refused_answers : (base : Condensed) (known list : List Action) (query : Query) (before after : Answer) (refusal : Refusal) → IsOk (look base query) → IsPrefixOf known list → IsLook (run base list) query before after (Err refusal) → LookAnswers base known known query before after (Err refusal)
+refused_answers base known list query before after Stopped there prefix is = (refl, is.1, there)
+refused_answers base known list query before after OutOfMemory there prefix is = (refl, (list, (prefix, is)))
+refused_answers base known list query before after refusal there prefix is = (refl, (list, (prefix, is)))

@@ -1,4 +1,4 @@
-pub mod Fronts
+pub mod Prefixes
 pub mod Behinds
 pub mod Counted
 pub mod Extents

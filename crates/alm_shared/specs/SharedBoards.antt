@@ -12,7 +12,7 @@ use Rattle.alm_shared.specs.Publishers.{published}
 
 module _ {J P : Type 0} {g : Ghosts J} {m : M.Ghosts P} {a : A.Ghosts (ShownPlant J P g m) (AppendStep J g) (List LoggedAction)} {x : G.Ghosts (List LoggedAction)} where
   abbrev pub board_shown : Publisher (ShownPlant J P g m) (AppendStep J g) (List LoggedAction) (List LoggedAction) a x → List LoggedAction
-  board_shown b = (published b).told.front
+  board_shown b = (published b).told.prefix
 
   -- all later actions that the history holds, handed over or not
   abbrev pub board_pending : Publisher (ShownPlant J P g m) (AppendStep J g) (List LoggedAction) (List LoggedAction) a x → List LoggedAction

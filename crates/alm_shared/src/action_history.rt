@@ -3,8 +3,8 @@ ghost use Rattle.std.specs.Prelude.{◌≡◌, ◌≤◌, ◌++◌, [], length, 
 ghost use Rattle.alm_model.specs.Judging.{logged_actions, logged_of};
 ghost use Rattle.alm_model.specs.Step.{run};
 
+use crate::action_prefix::ActionPrefix;
 use crate::append_actions::{AppendActions, Growth, Rest};
-use crate::front::Front;
 use crate::of_actions::OfActions;
 use alm_history::{HistoryWriter, NewHistory};
 use alm_model::accepted_in;
@@ -66,10 +66,10 @@ impl<J: RunId> ActionHistory<J> {
     }
 
     /// The actions so far.
-    pub fn front(&self) -> Front<J>
+    pub fn prefix(&self) -> ActionPrefix<J>
         ensures { result ≡ self.now }
     {
-        Front::new(self.len, self.writer.seen())
+        ActionPrefix::new(self.len, self.writer.seen())
     }
 
     // Adds the accepted actions of a batch, without the first `from`. Nobody else adds any, so it is never refused.

@@ -10,5 +10,5 @@ use alm_types::LoggedAction;
 pub struct AppendStep<J: RunId> {
     pub actions: Vec<LoggedAction>,
     pub told: Durable<J>,
-    pub ghost last: { HasLast told.front actions.items },
+    pub ghost last: { HasLast told.prefix actions.items },
 }

@@ -1,9 +1,9 @@
 //! A shared board is a board.
 
 use crate::action_history::ActionHistory;
+use crate::action_prefix::ActionPrefix;
 use crate::append_step::AppendStep;
 use crate::durable::Durable;
-use crate::front::Front;
 use crate::publisher::Publisher;
 use crate::shown_plant::ShownPlant;
 use alm_board::{Board, Publish};
@@ -14,7 +14,7 @@ use std::alloc::AllocError;
 use std::sync::Wait;
 
 impl<J: RunId, P: Alarms + Drop> Board
-    for Publisher<ShownPlant<J, P>, AppendStep<J>, Front<J>, ActionHistory<J>> {
+    for Publisher<ShownPlant<J, P>, AppendStep<J>, ActionPrefix<J>, ActionHistory<J>> {
     ghost use Rattle.alm_model.specs.Judging.{logged_actions};
     ghost use Rattle.alm_shared.specs.SharedBoards.{board_shown, board_pending};
 
@@ -34,7 +34,7 @@ impl<J: RunId, P: Alarms + Drop> Board
 }
 
 impl<J: RunId, P: Alarms + Drop, R: Wait> Publish<R, Moments<J>>
-    for Publisher<ShownPlant<J, P>, AppendStep<J>, Front<J>, ActionHistory<J>> {
+    for Publisher<ShownPlant<J, P>, AppendStep<J>, ActionPrefix<J>, ActionHistory<J>> {
     ghost sure = { ⊥ };
 
     fn publish(&mut self, by: &R, moments: &Moments<J>, batch: &Batch) -> Result<(), AllocError> {

@@ -4,7 +4,7 @@ ghost use mathlib.Core.List.{IsPrefix};
 ghost use Rattle.alm_model.specs.Judging.{logged_actions};
 ghost use Rattle.alm_moments.specs.Moments.{now_of};
 
-use crate::front::Front;
+use crate::action_prefix::ActionPrefix;
 use alm_moments::{Moments, RunId};
 use alm_rings::Told;
 
@@ -12,13 +12,13 @@ use alm_rings::Told;
 /// it, and looks know it.
 #[derive(Drop)]
 pub struct Durable<J: RunId> {
-    pub front: Front<J>,
+    pub prefix: ActionPrefix<J>,
     pub moments: Moments<J>,
     /// Its actions are on the device from the last of these moments on,
-    pub ghost held: { J.base.panel.count + length (logged_actions front) ≤
+    pub ghost held: { J.base.panel.count + length (logged_actions prefix) ≤
         (now_of J.base J.first moments).floor },
     /// and they are the first that were accepted.
-    pub ghost within: { ∥ IsPrefix (logged_actions front) (now_of J.base J.first moments).accepted ∥₁ },
+    pub ghost within: { ∥ IsPrefix (logged_actions prefix) (now_of J.base J.first moments).accepted ∥₁ },
 }
 
 impl<J: RunId> Told for Durable<J> {
@@ -26,9 +26,9 @@ impl<J: RunId> Told for Durable<J> {
 
     ghost base_count = { λ _. J.base.panel.count };
 
-    ghost list = { λ told. logged_actions told.front };
+    ghost list = { λ told. logged_actions told.prefix };
 
-    ghost logged = { λ told. told.front };
+    ghost logged = { λ told. told.prefix };
 }
 
 impl<J: RunId> Durable<J> {
@@ -36,23 +36,23 @@ impl<J: RunId> Durable<J> {
 
     /// The same.
     pub fn again(&self) -> Durable<J>
-        ensures front { result.front ≡ self.now.front }
+        ensures prefix { result.prefix ≡ self.now.prefix }
         ensures moments { result.moments ≡ self.now.moments }
     {
         Durable {
-            front: self.front.again(),
+            prefix: self.prefix.again(),
             moments: self.moments.again(),
         }
     }
 
     /// The longer of two prefixes: it begins with the other.
     pub fn longer(&self, other: &Durable<J>) -> Durable<J>
-        ensures this { IsPrefix self.now.front result.front }
-        ensures that { IsPrefix other.now.front result.front }
+        ensures this { IsPrefix self.now.prefix result.prefix }
+        ensures that { IsPrefix other.now.prefix result.prefix }
     {
         // for the proof: one of two prefixes of a history begins with the other
-        drop(self.front.longer(&other.front));
-        if self.front.len() < other.front.len() {
+        drop(self.prefix.longer(&other.prefix));
+        if self.prefix.len() < other.prefix.len() {
             other.again()
         } else {
             self.again()

@@ -3,9 +3,9 @@ ghost use Rattle.std.specs.Prelude.{◌≡◌, ◌+◌, IfOk, drop, length};
 ghost use Rattle.alm_model.specs.Judging.{logged_of};
 
 use crate::action_history::ActionHistory;
+use crate::action_prefix::ActionPrefix;
 use crate::append_step::AppendStep;
 use crate::durable::Durable;
-use crate::front::Front;
 use crate::publisher::Publisher;
 use crate::shown_plant::ShownPlant;
 use alm_model::Alarms;
@@ -16,38 +16,38 @@ use std::alloc::{AllocError, Global};
 impl<J: RunId, P: Alarms + Drop> Publisher<
     ShownPlant<J, P>,
     AppendStep<J>,
-    Front<J>,
+    ActionPrefix<J>,
     ActionHistory<J>,
 > {
     ghost use Rattle.std.specs.Prelude.{◌≡◌, ◌++◌, ◌↔◌, OnOk, OnErr, IsTrue, MatchResult};
     ghost use Rattle.alm_model.specs.Judging.{accepted_of, logged_actions, logged_of};
     ghost use Rattle.alm_model.specs.Rules.{AllAdmitted};
     ghost use Rattle.alm_model.specs.Step.{run};
-    ghost use Rattle.alm_board.specs.Fronts.{IsFront};
+    ghost use Rattle.alm_board.specs.PrefixesOf.{IsPrefixOf};
     ghost use Rattle.alm_moments.specs.Moments.{AreHeld};
     ghost use Rattle.alm_shared.specs.Publishers.{published};
     ghost use Rattle.alm_shared.specs.SharedBoards.{board_shown, board_pending};
 
     // Whether what is shown is a prefix of what was handed over, and that a prefix of the history, as they always are.
     fn is_ahead(&self) -> bool
-        ensures { IsTrue result ↔ (IsFront (board_shown self.now) self.now.owner ×
-            IsFront self.now.owner self.now.extra) }
+        ensures { IsTrue result ↔ (IsPrefixOf (board_shown self.now) self.now.owner ×
+            IsPrefixOf self.now.owner self.now.extra) }
     {
         let handed = &self.owner;
-        self.shown().told.front.begins(handed) && handed.begins(&self.extra.front())
+        self.shown().told.prefix.begins(handed) && handed.begins(&self.extra.prefix())
     }
 
     // Adds to the history what is left of a batch.
     fn reach(&mut self, batch: &Batch)
-        requires ahead { IsFront (board_shown self.old) self.old.extra }
+        requires ahead { IsPrefixOf (board_shown self.old) self.old.extra }
         requires admitted { AllAdmitted (run J.base (logged_actions (board_shown self.old)))
             (accepted_of batch.now.entries) }
-        requires same { IsFront (board_pending self.old) (logged_of batch.now.entries) }
+        requires same { IsPrefixOf (board_pending self.old) (logged_of batch.now.entries) }
         ensures published { published self.new ≡ published self.old }
         ensures handed { self.new.owner ≡ self.old.owner }
         ensures reached { self.new.extra ≡ board_shown self.old ++ logged_of batch.now.entries }
     {
-        let from = self.extra.len() - self.shown().told.front.len();
+        let from = self.extra.len() - self.shown().told.prefix.len();
         self.extra.extend(batch, from);
     }
 
@@ -60,9 +60,9 @@ impl<J: RunId, P: Alarms + Drop> Publisher<
         ensures handed { MatchResult result (λ _. self.new.owner ≡ self.old.extra)
             (λ _. self.new.owner ≡ self.old.owner) }
     {
-        let handed = self.extra.front();
+        let handed = self.extra.prefix();
         let told = Durable {
-            front: handed.again(),
+            prefix: handed.again(),
             moments: moments.again(),
         };
         match self.append(AppendStep { actions, told }, handed) {
@@ -79,14 +79,14 @@ impl<J: RunId, P: Alarms + Drop> Publisher<
     ) -> Result<(), AllocError>
         requires admitted { AllAdmitted (run J.base (logged_actions (board_shown self.old)))
             (accepted_of batch.now.entries) }
-        requires same { IsFront (board_pending self.old) (logged_of batch.now.entries) }
+        requires same { IsPrefixOf (board_pending self.old) (logged_of batch.now.entries) }
         requires held { AreHeld J.base J.first moments.now
             (logged_actions (board_shown self.old) ++ accepted_of batch.now.entries) }
         ensures published { published self.new ≡ published self.old }
         ensures ok { OnOk result
             (self.new.owner ≡ board_shown self.old ++ logged_of batch.now.entries) }
         ensures clear { OnOk result (self.new.extra ≡ self.new.owner) }
-        ensures err { OnErr result (IsFront (board_pending self.new) (logged_of batch.now.entries)) }
+        ensures err { OnErr result (IsPrefixOf (board_pending self.new) (logged_of batch.now.entries)) }
     {
         if !self.is_ahead() {
             return Err(AllocError);
@@ -97,7 +97,7 @@ impl<J: RunId, P: Alarms + Drop> Publisher<
         if more == 0 {
             return Ok(());
         }
-        let from = handed - self.shown().told.front.len();
+        let from = handed - self.shown().told.prefix.len();
         let actions = last_of(self.extra.alloc(), batch, from, more)?;
         self.hand(actions, moments)
     }

@@ -10,7 +10,7 @@ use alm_moments::laws::what_is_held_stays_stored;
 /// plant that an honest device then encodes is made by these actions, and by others after them.
 pub fn what_is_told_stays_stored<J: RunId>(told: &Durable<J>)
     ensures { StaysStored J.honest J.recovers J.base J.first told.now.moments
-        (logged_actions told.now.front) }
+        (logged_actions told.now.prefix) }
 {
     what_is_held_stays_stored(&told.moments);
 }

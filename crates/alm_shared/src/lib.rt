@@ -13,7 +13,7 @@
 //! |---|---|
 //! | [`SharedBoard`], [`open_board`] | the board, and what opens it with its looks |
 //! | [`SharedLook`] | one slot's view of it |
-//! | [`Front`] | a prefix of the run's history of actions, eight bytes however long it is |
+//! | [`ActionPrefix`] | a prefix of the run's history of actions, eight bytes however long it is |
 //! | [`Durable`] | what receipts report and looks know: a prefix that stays on the device ([`laws`]) |
 //! | [`ActionHistory`] | the one writer of that history |
 //! | [`NewRun`] | the histories of a run, before it has a name |
@@ -45,12 +45,12 @@
 #![tactic(auto)]
 
 mod action_history;
+mod action_prefix;
 mod append_actions;
 mod append_step;
 mod board;
 mod durable;
 mod extent;
-mod front;
 mod handing;
 pub mod laws;
 mod looks_once;
@@ -68,11 +68,11 @@ mod shown_plant;
 mod shows_next;
 
 pub use action_history::ActionHistory;
+pub use action_prefix::ActionPrefix;
 pub use append_actions::Growth;
 pub use append_step::AppendStep;
 pub use durable::Durable;
 pub use extent::Extent;
-pub use front::Front;
 pub use new_run::NewRun;
 pub use next_shown::NextShown;
 pub use open::open_board;

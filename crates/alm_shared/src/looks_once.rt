@@ -12,5 +12,5 @@ pub struct LooksOnce;
 impl<J: RunId, P: Alarms + Drop> Outcome<ShownPlant<J, P>, ReaderSight> for LooksOnce {
     ghost use Rattle.std.specs.Prelude.{◌≡◌, ◌+◌};
 
-    ghost then = { λ old _ shown new. (new.looks ≡ old.looks + 1) × (new.seen ≡ shown.told.front) };
+    ghost then = { λ old _ shown new. (new.looks ≡ old.looks + 1) × (new.seen ≡ shown.told.prefix) };
 }

@@ -33,9 +33,9 @@ fn begin<J: RunId, P: Alarms + Drop>(
 {
     let second = plant.copy(alloc)?;
     let history = ActionHistory::<J>::new(alloc, history).ok_or(AllocError)?;
-    let front = history.front();
+    let prefix = history.prefix();
     let told = Durable {
-        front: front.again(),
+        prefix: prefix.again(),
         moments: moments.again(),
     };
     let first = ShownPlant {
@@ -48,7 +48,7 @@ fn begin<J: RunId, P: Alarms + Drop>(
         recent: RecentEvents::new(alloc)?,
         told: told.again(),
     };
-    let board = Publisher::new(alloc, first, second, lookers, front, history)?;
+    let board = Publisher::new(alloc, first, second, lookers, prefix, history)?;
     Ok((board, told))
 }
 

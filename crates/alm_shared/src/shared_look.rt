@@ -3,7 +3,7 @@ ghost use Rattle.std.specs.Prelude.{◌≡◌, ◌≤◌, length, IsOk, OnOk};
 ghost use Rattle.alm_model.specs.Judging.{logged_actions};
 ghost use Rattle.alm_model.specs.Look.{IsLook, look as told};
 ghost use Rattle.alm_model.specs.Step.{run};
-ghost use Rattle.alm_board.specs.Fronts.{IsFront};
+ghost use Rattle.alm_board.specs.PrefixesOf.{IsPrefixOf};
 ghost use Rattle.alm_board.specs.Looks.{LookAnswers};
 
 use crate::durable::Durable;
@@ -38,12 +38,12 @@ impl<J: RunId, P: Alarms + Drop> Look for SharedLook<J, P> {
 
     ghost base = { λ _. J.base };
 
-    ghost knows = { λ look. logged_actions look.known.front };
+    ghost knows = { λ look. logged_actions look.known.prefix };
 
     /// An answer is of the list that was published as this very look was made.
     ghost looked = { λ look query result later. OnOk result
         (HasLooked (option_map (λ reader. view reader.place) look.reader)
-        (option_map (λ reader. view reader.place) later.reader) later.known.front) };
+        (option_map (λ reader. view reader.place) later.reader) later.known.prefix) };
 
     fn look(&mut self, query: Query, answer: &mut Answer) -> Result<u64, Refusal> {
         if let Err(refusal) = self.extent.find(query) {
@@ -83,18 +83,18 @@ fn look_at<J: RunId, P: Alarms + Drop>(
     answer: &mut Answer,
 ) -> Result<u64, Refusal>
     requires there { IsOk (told J.base query) }
-    ensures later { IsFront (logged_actions known.old.front) (logged_actions known.new.front) }
-    ensures answer { LookAnswers J.base (logged_actions known.old.front) (logged_actions known.new.front)
+    ensures later { IsPrefixOf (logged_actions known.old.prefix) (logged_actions known.new.prefix) }
+    ensures answer { LookAnswers J.base (logged_actions known.old.prefix) (logged_actions known.new.prefix)
         query answer.old answer.new result }
-    ensures shown { length known.old.front ≤ length shown.now.told.front →
-        IsLook (run J.base (logged_actions shown.now.told.front)) query answer.old answer.new result }
-    ensures saw { OnOk result (known.new.front ≡ shown.now.told.front) }
+    ensures shown { length known.old.prefix ≤ length shown.now.told.prefix →
+        IsLook (run J.base (logged_actions shown.now.told.prefix)) query answer.old answer.new result }
+    ensures saw { OnOk result (known.new.prefix ≡ shown.now.told.prefix) }
 {
-    if shown.told.front.len() < known.front.len() {
+    if shown.told.prefix.len() < known.prefix.len() {
         return Err(Refusal::Stopped);
     }
     // for the proof: one of two prefixes of a history begins with the other
-    drop(shown.told.front.longer(&known.front));
+    drop(shown.told.prefix.longer(&known.prefix));
     match look(&shown.plant, query, answer) {
         Ok(count) => {
             *known = shown.told.again();

@@ -1,6 +1,6 @@
 //! What happened, by a slot's view of a shared board.
 ghost use Rattle.std.specs.Prelude.{◌≡◌, ◌≤◌, length, vec_capacity, false, IfErr, OnOk};
-ghost use Rattle.alm_board.specs.Fronts.{IsFront};
+ghost use Rattle.alm_board.specs.PrefixesOf.{IsPrefixOf};
 ghost use Rattle.alm_board.specs.Recalls.{RecallAnswers};
 ghost use Rattle.alm_events.specs.Events.{asked_after, is_remembered, most_told};
 ghost use Rattle.alm_types.specs.declared.refusal.Refusal.TheVariants.{Forgotten};
@@ -21,12 +21,12 @@ impl<J: RunId, P: Alarms + Drop> Recall for SharedLook<J, P> {
     ghost use Rattle.alm_types.specs.declared.refusal.Refusal.TheVariants.{Forgotten};
     ghost use Rattle.left_right.specs.Sides.{view};
 
-    ghost logged = { λ look. look.known.front };
+    ghost logged = { λ look. look.known.prefix };
 
     /// What is reported is of the list that was published as this very look was made, and what is forgotten is so in that list.
     ghost recalled = { λ look after result later.
         OnOk result (HasLooked (option_map (λ reader. view reader.place) look.reader)
-        (option_map (λ reader. view reader.place) later.reader) later.known.front) ×
+        (option_map (λ reader. view reader.place) later.reader) later.known.prefix) ×
         IfErr result (λ refusal. refusal ≡ Forgotten → HasForgotten J.base after
         (option_map (λ reader. view reader.place) look.reader)
         (option_map (λ reader. view reader.place) later.reader)) };
@@ -57,22 +57,22 @@ fn recall_at<J: RunId, P: Alarms + Drop>(
     events: &mut Vec<Event>,
 ) -> Result<Recalled, Refusal>
     requires { most_told ≤ vec_capacity events.old }
-    ensures later { IsFront known.old.front known.new.front }
-    ensures answer { RecallAnswers J.base known.old.front known.new.front after events.old.items
+    ensures later { IsPrefixOf known.old.prefix known.new.prefix }
+    ensures answer { RecallAnswers J.base known.old.prefix known.new.prefix after events.old.items
         events.new.items result }
-    ensures shown { length known.old.front ≤ length shown.now.told.front →
+    ensures shown { length known.old.prefix ≤ length shown.now.told.prefix →
         IfErr result (λ refusal. refusal ≡ Forgotten) }
     ensures forgotten { IfErr result (λ refusal. refusal ≡ Forgotten →
-        is_remembered J.base shown.now.told.front (asked_after J.base shown.now.told.front after) ≡
+        is_remembered J.base shown.now.told.prefix (asked_after J.base shown.now.told.prefix after) ≡
         false) }
-    ensures saw { OnOk result (known.new.front ≡ shown.now.told.front) }
+    ensures saw { OnOk result (known.new.prefix ≡ shown.now.told.prefix) }
     ensures room { vec_capacity events.new ≡ vec_capacity events.old }
 {
-    if known.front.len() > shown.told.front.len() {
+    if known.prefix.len() > shown.told.prefix.len() {
         return Err(Refusal::Stopped);
     }
     // for the proof: one of two prefixes of a history begins with the other
-    drop(shown.told.front.longer(&known.front));
+    drop(shown.told.prefix.longer(&known.prefix));
     let count = shown.plant.count();
     let number = after.unwrap_or(count - shown.recent.len() as u64);
     if !shown.recent.recall(count, number, events) {

@@ -20,8 +20,8 @@ pub struct ShownPlant<J: RunId, P: Alarms + Drop> {
     /// The last of these actions, as they are reported.
     pub recent: RecentEvents,
     pub told: Durable<J>,
-    pub ghost is_fold: { P.plant plant ≡ run J.base (logged_actions told.front) },
-    pub ghost remembers: { recent ≡ last most_kept (events_from J.base told.front) },
+    pub ghost is_fold: { P.plant plant ≡ run J.base (logged_actions told.prefix) },
+    pub ghost remembers: { recent ≡ last most_kept (events_from J.base told.prefix) },
 }
 
 impl<J: RunId, P: Alarms + Drop> ShownPlant<J, P> {
@@ -32,10 +32,10 @@ impl<J: RunId, P: Alarms + Drop> ShownPlant<J, P> {
 
     // The next actions.
     fn take(&mut self, actions: &[LoggedAction], told: Durable<J>)
-        requires next { told.front ≡ self.old.told.front ++ actions.now }
-        requires admitted { AllAdmitted (run J.base (logged_actions self.old.told.front))
+        requires next { told.prefix ≡ self.old.told.prefix ++ actions.now }
+        requires admitted { AllAdmitted (run J.base (logged_actions self.old.told.prefix))
             (logged_actions actions.now) }
-        ensures { self.new.told.front ≡ told.front }
+        ensures { self.new.told.prefix ≡ told.prefix }
     {
         apply_logged(&mut self.plant, &mut self.recent, actions);
         self.told = told;
@@ -47,9 +47,9 @@ impl<J: RunId, P: Alarms + Drop> Absorb<AppendStep<J>> for ShownPlant<J, P> {
 
     type State = [LoggedAction; 0];
 
-    ghost state = { λ s. s.told.front };
+    ghost state = { λ s. s.told.prefix };
 
-    ghost applied = { λ xs step. next_if_longer xs step.actions.items step.told.front };
+    ghost applied = { λ xs step. next_if_longer xs step.actions.items step.told.prefix };
 
     ghost never_fails = { Unit {0} };
 
@@ -59,7 +59,7 @@ impl<J: RunId, P: Alarms + Drop> Absorb<AppendStep<J>> for ShownPlant<J, P> {
         _other: &ShownPlant<J, P>,
     ) -> Result<(), AllocError> {
         let AppendStep { actions, told } = operation;
-        if self.told.front.is_followed_by(&told.front, actions) {
+        if self.told.prefix.is_followed_by(&told.prefix, actions) {
             self.take(actions, told.again());
         }
         Ok(())

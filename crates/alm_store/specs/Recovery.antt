@@ -9,7 +9,7 @@ use Rattle.alm_model.specs.declared.list.List.{List as Choice}
 use Rattle.alm_model.specs.Step.{run}
 
 -- this plant is made by a prefix of the accepted actions, and its count reaches the floor
-pub record IsFrontPlant (base : Condensed) (accepted : List Action) (floor : ℕ) (q : Condensed) : Type 0 where
+pub record IsPrefixPlant (base : Condensed) (accepted : List Action) (floor : ℕ) (q : Condensed) : Type 0 where
   pub enough : floor ≤ q.panel.count
   pub no_more : q.panel.count ≤ base.panel.count + length accepted
   pub plant : q ≡ run base (take (q.panel.count - base.panel.count) accepted)
@@ -22,5 +22,5 @@ pub record IsFilter (q : Condensed) (list : Choice) : Type 0 where
 -- an image encodes a plant; this is such a plant, and each of its lists that is by stamp is the filter of its alarms
 pub record IsSafe (recovers : List ℕ → Condensed → Type 0) (base : Condensed) (accepted : List Action) (floor : ℕ) (image : List ℕ) : Type 0 where
   pub some : ∥ ((plant : Condensed) × recovers image plant) ∥₁
-  pub each : (plant : Condensed) → recovers image plant → IsFrontPlant base accepted floor plant
+  pub each : (plant : Condensed) → recovers image plant → IsPrefixPlant base accepted floor plant
   pub lists : (plant : Condensed) → recovers image plant → (list : Choice) → is_by_stamp list ≡ true → IsFilter plant list

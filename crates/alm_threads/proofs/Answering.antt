@@ -13,7 +13,7 @@ use Rattle.alm_rings.specs.declared.told.Told.{Ghosts}
 use Rattle.alm_rings.specs.Ends.{sent_of, received_of}
 use Rattle.alm_rings.specs.Placed.{SameInboxAt, taken_in, taken_by, released_by}
 use Rattle.alm_threads.specs.Runs.{AnswersConsole, HasReport, IsSlotClosed}
-use Rattle.alm_threads.proofs.Tied.{received_count, replies_count, replies_front, wants_count}
+use Rattle.alm_threads.proofs.Tied.{received_count, replies_count, replies_prefix, wants_count}
 
 -- a slot without an inbox has no entries
 pub nobody_asked : (a b : Option Inbox) (es : List Entry) → SameInboxAt a b → a ≡ None → wants_of es ≡ taken_in b → es ≡ []
@@ -33,7 +33,7 @@ module _ {T : Type 0} {g : Ghosts T} where
       sym (received_count (released_by c.slot os)) ∙ (ap length replies ∙ replies_count (of_slot c.slot told)) in record {
         serials = serials ∙ ap (λ n. range_with_len 1 n) taken;
         requests = subst (λ l. IsPrefix l (sent_of c)) (sym wants) closed.taken;
-        receipts = subst (λ l. IsPrefix (replies_in (received_of c)) l) replies (replies_front (received_of c) (released_by c.slot os) closed.received);
+        receipts = subst (λ l. IsPrefix (replies_in (received_of c)) l) replies (replies_prefix (received_of c) (released_by c.slot os) closed.received);
         report = subst (λ n. HasReport reports k (length (sent_of c)) (length (of_slot c.slot entries)) n (length (received_of c))) released
             (subst (λ n. HasReport reports k (length (sent_of c)) n (length (released_by c.slot os)) (length (received_of c))) taken closed.report);
       }

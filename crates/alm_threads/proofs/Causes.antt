@@ -12,7 +12,7 @@ use Rattle.alm_model.specs.Judging.{IsLegal, accepted_of, entries_in, firsts_fro
 use Rattle.alm_model.specs.Plant.{Condensed}
 use Rattle.alm_model.specs.Rules.{AllAdmitted}
 use Rattle.alm_model.specs.Step.{run}
-use Rattle.alm_model.proofs.Legal.{accepted_append, admitted_front, entries_append, legal_admitted, next_batch}
+use Rattle.alm_model.proofs.Legal.{accepted_append, admitted_prefix, entries_append, legal_admitted, next_batch}
 use Rattle.alm_rings.specs.declared.fetch_ends.FetchEnds.{FetchEnds}
 use Rattle.alm_rings.specs.declared.outbox.Outbox.{Outbox}
 use Rattle.alm_rings.specs.declared.told.Told.{Ghosts}
@@ -38,27 +38,27 @@ failed_since first old new a b (inl less) = inl (omega (arith, a, less))
 failed_since first old new a b (inr last) = ⊎_elim (λ less. inl (omega (arith, less, b, last))) (λ more. inr (omega (arith, more, a, last))) (cases_lt first last_count)
 
 -- batches in order begin with batches in order
-firsts_front : (n : ℕ) (xs ys : List Judged) → firsts_of (xs ++ ys) ≡ firsts_from n (xs ++ ys) → firsts_of xs ≡ firsts_from n xs
-firsts_front n [] ys is = refl
-firsts_front n (b ∷ xs) ys is =
+firsts_prefix : (n : ℕ) (xs ys : List Judged) → firsts_of (xs ++ ys) ≡ firsts_from n (xs ++ ys) → firsts_of xs ≡ firsts_from n xs
+firsts_prefix n [] ys is = refl
+firsts_prefix n (b ∷ xs) ys is =
     let first : b.first ≡ n = cc is in
     let rest : firsts_of (xs ++ ys) ≡ firsts_from (n + length (accepted_of b.entries)) (xs ++ ys) = cc is in
-    rw (first, firsts_front (n + length (accepted_of b.entries)) xs ys rest) refl
+    rw (first, firsts_prefix (n + length (accepted_of b.entries)) xs ys rest) refl
 
-pub in_order_front : (base : Condensed) (xs ys : List Judged) → IsPrefix xs ys → AreInOrder base ys → AreInOrder base xs
-in_order_front base xs ys front all =
-    let order = subst (λ (l : List Judged). AreInOrder base l) (sym front.1) all in
+pub in_order_prefix : (base : Condensed) (xs ys : List Judged) → IsPrefix xs ys → AreInOrder base ys → AreInOrder base xs
+in_order_prefix base xs ys prefix all =
+    let order = subst (λ (l : List Judged). AreInOrder base l) (sym prefix.1) all in
     record {
-      firsts = firsts_front (base.panel.count + 1) xs front.0 order.firsts;
-      admitted = admitted_front base (accepted_of (entries_in xs)) (accepted_of (entries_in front.0))
-          (subst (AllAdmitted base) (ap accepted_of (entries_append xs front.0) ∙ accepted_append (entries_in xs) (entries_in front.0)) order.admitted);
+      firsts = firsts_prefix (base.panel.count + 1) xs prefix.0 order.firsts;
+      admitted = admitted_prefix base (accepted_of (entries_in xs)) (accepted_of (entries_in prefix.0))
+          (subst (AllAdmitted base) (ap accepted_of (entries_append xs prefix.0) ∙ accepted_append (entries_in xs) (entries_in prefix.0)) order.admitted);
     }
 
 -- what is legal in batches that continue each other is in order
 pub legal_in_order : (base : Condensed) (batches : List Judged) (open' : List Entry) → firsts_of batches ≡ firsts_from (base.panel.count + 1) batches → IsLegal base (entries_in batches ++ open') → AreInOrder base batches
 legal_in_order base batches open' firsts legal = record {
   firsts = firsts;
-  admitted = admitted_front base (accepted_of (entries_in batches)) (accepted_of open')
+  admitted = admitted_prefix base (accepted_of (entries_in batches)) (accepted_of open')
       (subst (AllAdmitted base) (accepted_append (entries_in batches) open') (legal_admitted base (entries_in batches ++ open') legal));
 }
 

@@ -22,7 +22,7 @@ others number all xs ys x apart is j y at = λ same.
     omega (arith, apart j (length xs) y x its mine same, slice_get_within xs j y at)
 
 pub prefix_length : {A : Type 0} (xs ys : List A) → IsPrefix xs ys → length xs ≤ length ys
-prefix_length xs ys front = omega (arith, length-append xs front.0, ap length front.1)
+prefix_length xs ys prefix = omega (arith, length-append xs prefix.0, ap length prefix.1)
 
 pub is_there : {A : Type 0} (o : Option A) → o ≡ None → IsSome o → ⊥
 is_there None is some = absurd (cc some)

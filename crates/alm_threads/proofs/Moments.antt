@@ -23,10 +23,10 @@ use Rattle.alm_flush.specs.declared.held.Held.{Held}
 use Rattle.alm_flush.specs.declared.held.Held.TheVariants.{Nothing, Fetched, Failed, Committed, Published}
 use Rattle.alm_flush.specs.declared.fetch.Fetch as F
 use Rattle.alm_flush.specs.Flushes.{FetchAnswers}
-use Rattle.alm_store.specs.Recovery.{IsFrontPlant, IsSafe}
-use Rattle.alm_store.proofs.Recovery.{front_is, front_prop, safe_by}
+use Rattle.alm_store.specs.Recovery.{IsPrefixPlant, IsSafe}
+use Rattle.alm_store.proofs.Recovery.{prefix_is, prefix_prop, safe_by}
 use Rattle.alm_threads.specs.Moments.{Endures, IsCourse}
-use Rattle.alm_threads.proofs.Histories.{ahead_front, told_shown}
+use Rattle.alm_threads.proofs.Histories.{ahead_prefix, told_shown}
 
 pub accepted_prefix : (xs ys : List Entry) → IsPrefix xs ys → IsPrefix (accepted_of xs) (accepted_of ys)
 accepted_prefix xs ys p = (accepted_of p.0, sym (accepted_append xs p.0) ∙ ap accepted_of p.1)
@@ -75,20 +75,20 @@ released_shown before h published shown =
     omega (arith, ap length shown, prefix_le _ _ (accepted_prefix (entries_in before ++ released_entries h) (entries_in before ++ published_entries h) (told_shown before h)))
 
 -- the stored plant, and the one of the commit, are those of prefixes of all that was fetched
-fronts : (base : Condensed) (before fetched : List Judged) (h : Held) (floor : ℕ) (stored : Condensed) → fetched ≡ before ++ batches_of h → stored ≡ run base (accepted_of (entries_in before ++ stored_of h))
+prefixes : (base : Condensed) (before fetched : List Judged) (h : Held) (floor : ℕ) (stored : Condensed) → fetched ≡ before ++ batches_of h → stored ≡ run base (accepted_of (entries_in before ++ stored_of h))
     → floor ≤ base.panel.count + length (accepted_of (entries_in before ++ stored_of h))
-    → IsFrontPlant base (accepted_of (entries_in fetched)) floor stored × IsFrontPlant base (accepted_of (entries_in fetched)) floor (run stored (accepted_of (waiting_of h)))
-fronts base before fetched h floor stored held is enough =
+    → IsPrefixPlant base (accepted_of (entries_in fetched)) floor stored × IsPrefixPlant base (accepted_of (entries_in fetched)) floor (run stored (accepted_of (waiting_of h)))
+prefixes base before fetched h floor stored held is enough =
     let kept = entries_in before ++ stored_of h in
     let list = accepted_of kept in
     let waiting = accepted_of (waiting_of h) in
     let all = accepted_of (entries_in fetched) in
-    let front = ahead_front before h fetched held in
-    let rest = accepted_of front.0 in
-    let split : (list ++ waiting) ++ rest ≡ all = ap (λ l. l ++ rest) (sym (accepted_append kept (waiting_of h))) ∙ (sym (accepted_append (kept ++ waiting_of h) front.0) ∙ ap accepted_of front.1) in
+    let prefix = ahead_prefix before h fetched held in
+    let rest = accepted_of prefix.0 in
+    let split : (list ++ waiting) ++ rest ≡ all = ap (λ l. l ++ rest) (sym (accepted_append kept (waiting_of h))) ∙ (sym (accepted_append (kept ++ waiting_of h) prefix.0) ∙ ap accepted_of prefix.1) in
     let ahead : run stored waiting ≡ run base (list ++ waiting) = ap (λ (q : Condensed). run q waiting) is ∙ sym (run_append base list waiting) in (
-      subst (IsFrontPlant base all floor) (sym is) (front_is base all floor list (waiting ++ rest) (sym (append_assoc list waiting rest) ∙ split) enough),
-      subst (IsFrontPlant base all floor) (sym ahead) (front_is base all floor (list ++ waiting) rest split (omega (arith, enough, length-append list waiting))),
+      subst (IsPrefixPlant base all floor) (sym is) (prefix_is base all floor list (waiting ++ rest) (sym (append_assoc list waiting rest) ∙ split) enough),
+      subst (IsPrefixPlant base all floor) (sym ahead) (prefix_is base all floor (list ++ waiting) rest split (omega (arith, enough, length-append list waiting))),
     )
 
 -- whatever a crash leaves of a flusher's device is safe
@@ -103,10 +103,10 @@ pub flusher_safe : (recovers : List ℕ → Condensed → Type 0)
     → IsSafe recovers base (accepted_of (entries_in fetched)) floor image
 flusher_safe recovers one rules base before fetched h floor stored next held is either enough image bytes stands =
     let all = accepted_of (entries_in fetched) in
-    let both = fronts base before fetched h floor stored held is enough in
-    let new : IsFrontPlant base all floor next = ∥∥₁_elim either (front_prop base all floor next) (⊎_elim
-    (λ (same : next ≡ stored). subst (IsFrontPlant base all floor) (sym same) both.0)
-    (λ (more : next ≡ run stored (accepted_of (waiting_of h))). subst (IsFrontPlant base all floor) (sym more) both.1)) in
+    let both = prefixes base before fetched h floor stored held is enough in
+    let new : IsPrefixPlant base all floor next = ∥∥₁_elim either (prefix_prop base all floor next) (⊎_elim
+    (λ (same : next ≡ stored). subst (IsPrefixPlant base all floor) (sym same) both.0)
+    (λ (more : next ≡ run stored (accepted_of (waiting_of h))). subst (IsPrefixPlant base all floor) (sym more) both.1)) in
     safe_by recovers base all floor stored next image bytes both.0 new stands one rules
 
 -- ---- the moments of a run, of the store that it is named after
@@ -148,16 +148,16 @@ endures_of premise honest recovers kept base from to history accepted floor repo
 
 widen : (recovers : List ℕ → Condensed → Type 0) (base : Condensed) (from to : DeviceState) (moments : List RecordedMoment) (accepted all : List Action) (reported : ℕ) → IsPrefix accepted all
     → IsCourse recovers base from to moments accepted reported → IsCourse recovers base from to moments all reported
-widen recovers base from to moments accepted all reported front c = record {
+widen recovers base from to moments accepted all reported prefix c = record {
   course = c.course;
   device = c.device;
-  within = (c.within.0 ++ front.0, sym (append_assoc (now_of base from moments).accepted c.within.0 front.0) ∙ (ap (λ l. l ++ front.0) c.within.1 ∙ front.1));
+  within = (c.within.0 ++ prefix.0, sym (append_assoc (now_of base from moments).accepted c.within.0 prefix.0) ∙ (ap (λ l. l ++ prefix.0) c.within.1 ∙ prefix.1));
   reaches = c.reaches;
 }
 
 -- .. among more accepted actions, to the last device and by a history with other names
 pub endures_on : (recovers : List ℕ → Condensed → Type 0) (base : Condensed) (honest : Type 0) (from to to' : DeviceState) (history history' : List RecordedMoment) (accepted all : List Action) (reported : ℕ)
     → to ≡ to' → history ≡ history' → IsPrefix accepted all → Endures honest recovers base from to history accepted reported → Endures honest recovers base from to' history' all reported
-endures_on recovers base honest from to to' history history' accepted all reported same taken front endures = λ h.
+endures_on recovers base honest from to to' history history' accepted all reported same taken prefix endures = λ h.
     ∥∥₁_map (endures h) (λ c. subst (λ (d : DeviceState). IsCourse recovers base from d history' all reported) same
-    (subst (λ (l : List RecordedMoment). IsCourse recovers base from to l all reported) taken (widen recovers base from to history accepted all reported front c)))
+    (subst (λ (l : List RecordedMoment). IsCourse recovers base from to l all reported) taken (widen recovers base from to history accepted all reported prefix c)))

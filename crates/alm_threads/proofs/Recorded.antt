@@ -184,6 +184,6 @@ shown_next before h published is =
 -- more may be accepted at a moment that is safe, whatever its device is called
 pub safe_with_more : (recovers : List ℕ → Condensed → Type 0) (base : Condensed) (d e : DeviceState) (accepted more : List Action) (floor : ℕ) → e ≡ d → IsPrefix accepted more
     → IsSafeMoment recovers base (moment_of d accepted floor) → IsSafeMoment recovers base (moment_of e more floor)
-safe_with_more recovers base d e accepted more floor same front safe =
+safe_with_more recovers base d e accepted more floor same prefix safe =
     subst (λ (x : DeviceState). IsSafeMoment recovers base (moment_of x more floor)) (sym same)
-    (λ image of. subst (λ (l : List Action). IsSafe recovers base l floor image) front.1 (safe_on recovers base accepted front.0 floor image (safe image of)))
+    (λ image of. subst (λ (l : List Action). IsSafe recovers base l floor image) prefix.1 (safe_on recovers base accepted prefix.0 floor image (safe image of)))

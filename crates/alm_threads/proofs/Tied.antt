@@ -46,11 +46,11 @@ pub replies_count : (es : List Entry) → length (replies_to es) ≡ length es
 replies_count [] = refl
 replies_count (e ∷ es) = ap suc (replies_count es)
 
-pub front_on : {A : Type 0} (xs ys zs : List A) → IsPrefix xs ys → IsPrefix ys zs → IsPrefix xs zs
-front_on xs ys zs p q = (p.0 ++ q.0, sym (append_assoc xs p.0 q.0) ∙ (ap (λ l. l ++ q.0) p.1 ∙ q.1))
+pub prefix_on : {A : Type 0} (xs ys zs : List A) → IsPrefix xs ys → IsPrefix ys zs → IsPrefix xs zs
+prefix_on xs ys zs p q = (p.0 ++ q.0, sym (append_assoc xs p.0 q.0) ∙ (ap (λ l. l ++ q.0) p.1 ∙ q.1))
 
-pub entries_front : (xs ys : List Batch) → IsPrefix xs ys → IsPrefix (entries_in xs) (entries_in ys)
-entries_front xs ys p = (entries_in p.0, sym (entries_append xs p.0) ∙ ap entries_in p.1)
+pub entries_prefix : (xs ys : List Batch) → IsPrefix xs ys → IsPrefix (entries_in xs) (entries_in ys)
+entries_prefix xs ys p = (entries_in p.0, sym (entries_append xs p.0) ∙ ap entries_in p.1)
 
 pub was_in : (a : Option Inbox) (j : Inbox) → SameInboxAt a (Some j) → (i : Inbox) × ((a ≡ Some i) × SameInbox i j)
 was_in None j same = absurd same
@@ -65,8 +65,8 @@ module _ {T : Type 0} {g : Ghosts T} where
   replies_append [] ss = refl
   replies_append (r ∷ rs) ss = ap (λ l. record { slot = r.slot; serial = r.serial; verdict = r.verdict } ∷ l) (replies_append rs ss)
 
-  pub replies_front : (rs ss : List (Receipt T g)) → IsPrefix rs ss → IsPrefix (replies_in rs) (replies_in ss)
-  replies_front rs ss p = (replies_in p.0, sym (replies_append rs p.0) ∙ ap replies_in p.1)
+  pub replies_prefix : (rs ss : List (Receipt T g)) → IsPrefix rs ss → IsPrefix (replies_in rs) (replies_in ss)
+  replies_prefix rs ss p = (replies_in p.0, sym (replies_append rs p.0) ∙ ap replies_in p.1)
 
   pub all_same_at : (cs ds : List (Console T g)) → AllSame cs ds → (k : ℕ) (d : Console T g) → slice_get ds k ≡ Some d → (c : Console T g) × ((slice_get cs k ≡ Some c) × SameConsole c d)
   all_same_at [] [] all k d at = absurd (none-some d at)

@@ -70,7 +70,7 @@ pub record IsServerRun (leaves : Condensed → Condensed → Type 0) (endures : 
   pub entries : List Entry
   pub legal : IsLegal base entries
   pub kept : List Entry
-  pub front : IsPrefix kept entries
+  pub prefix : IsPrefix kept entries
   pub stored_is : stored ≡ run base (accepted_of kept)
   pub waiting : List Entry
   pub ahead : IsPrefix (kept ++ waiting) entries

@@ -3,7 +3,7 @@
 use alm_board::Board;
 use alm_model::Alarms;
 use alm_moments::RunId;
-use alm_shared::{ActionHistory, AppendStep, Front, Publisher, ShownPlant};
+use alm_shared::{ActionHistory, ActionPrefix, AppendStep, Publisher, ShownPlant};
 use std::sync::Wait;
 
 /// A board that is closed by `C`: readers may still use it, and closing waits for them.
@@ -13,7 +13,7 @@ pub trait Closes<C>: Board {
 }
 
 impl<J: RunId, P: Alarms + Drop, R: Wait> Closes<R>
-    for Publisher<ShownPlant<J, P>, AppendStep<J>, Front<J>, ActionHistory<J>> {
+    for Publisher<ShownPlant<J, P>, AppendStep<J>, ActionPrefix<J>, ActionHistory<J>> {
     fn close(self, by: &R) {
         drop(self.take(by));
     }

@@ -89,7 +89,7 @@ fn what_was_answered_is_kept_where_a_call_fails(rt: HostRuntime) -> Result<(), F
 }
 
 #[test]
-fn a_front_of_what_was_accepted_is_kept_where_a_call_fails(rt: HostRuntime) -> Result<(), Fail> {
+fn a_prefix_of_what_was_accepted_is_kept_where_a_call_fails(rt: HostRuntime) -> Result<(), Fail> {
     let feed = Slot::new(16).ok_or("slot")?;
     for call in CALLS {
         let found = run_failing(&rt, rt.alloc(), Some(feed), call).ok_or("run")?;

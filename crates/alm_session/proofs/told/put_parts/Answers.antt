@@ -13,8 +13,8 @@ nothing = Word (record { ref_ptr = (0, 0); now = [] })
 
 pub returns-in_err-put_part-clause-full : goal.returns-in_err-put_part-clause-full
 returns-in_err-put_part-clause-full c =
-    let front = length-flat_map-take part_text c.args.parts.now c.loop-part.part-index nothing (search rules) in
+    let prefix = length-flat_map-take part_text c.args.parts.now c.loop-part.part-index nothing (search rules) in
     let len : length c.loop-part.text.items ≡ length c.args.text.now.items + length (text_of_parts (take c.loop-part.part-index c.args.parts.now)) = ap length c.loop-part.invariant.0 ∙ length-append c.args.text.now.items _ in
     let full : vec_capacity c.loop-part.text < vec_len c.loop-part.text + length (part_text (get_or c.args.parts.now c.loop-part.part-index nothing)) = search rules in
-    let all : vec_capacity c.args.text.now < vec_len c.args.text.now + length (text_of_parts c.args.parts.now) = omega (arith, front, len, full, c.loop-part.text.ok, c.args.text.now.ok, c.loop-part.invariant.1) in
+    let all : vec_capacity c.args.text.now < vec_len c.args.text.now + length (text_of_parts c.args.parts.now) = omega (arith, prefix, len, full, c.loop-part.text.ok, c.args.text.now.ok, c.loop-part.invariant.1) in
     on_err _ all

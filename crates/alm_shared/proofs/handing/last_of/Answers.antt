@@ -2,8 +2,8 @@ use Rattle.std.proofs.Common.{◌≡◌, ◌-◌, ◌+◌, ◌≤◌, ◌≢◌,
 use Rattle.alm_types.specs.declared.logged_action.LoggedAction.{LoggedAction}
 use Rattle.alm_model.specs.Judging.{logged_of}
 use Rattle.alm_model.proofs.Legal.{logged_accepted, logged_refused}
-use Rattle.alm_board.proofs.FrontLaws.{front_length}
-use Rattle.alm_shared.proofs.Behinds.{logged_front, one_taken, one_passed}
+use Rattle.alm_board.proofs.PrefixOfLaws.{prefix_of_length}
+use Rattle.alm_shared.proofs.Behinds.{logged_prefix, one_taken, one_passed}
 use Rattle.alm_shared.proofs.handing.last_of.Goals as goal
 use Rattle.alm_shared.proofs.handing.last_of.Goals.{in-Accepted+then-before-eq0, in-Accepted+else-before-eq0, in-Refused}
 
@@ -16,7 +16,7 @@ push_reserved-requires c =
     let before = logged_of (take k items) in
     let inv = c.loop-entry.invariant in
     let more : logged_of (take (k + 1) items) ≡ before ++ a ∷ [] = logged_accepted items k d c.in-Accepted.action c.loop-entry-test.true c.entry-item.is c.in-Accepted.is in
-    let within : length before + 1 ≤ length (logged_of items) = omega (arith, ap length more, length-append before (a ∷ []), front_length (logged_of (take (k + 1) items)) (logged_of items) (logged_front items (k + 1))) in
+    let within : length before + 1 ≤ length (logged_of items) = omega (arith, ap length more, length-append before (a ∷ []), prefix_of_length (logged_of (take (k + 1) items)) (logged_of items) (logged_prefix items (k + 1))) in
     let all : c.args.from + c.args.more ≡ length (logged_of items) = c.requires.more ∙ ap (λ l. length (logged_of l)) (sym c.entries-entry-items.ensures.entries) in
     omega (arith, within, all, ap length inv.last, length-drop c.args.from before, inv.before, inv.room, c.if-before-eq0.true)
 

@@ -7,7 +7,7 @@ use Rattle.alm_moments.specs.Moments.{AreMoments}
 use Rattle.alm_rings.specs.Batches.{fetched_of}
 use Rattle.alm_flush.specs.HeldBatch.{stored_of, released_entries, waiting_of}
 use Rattle.alm_threads.specs.Moments.{Endures}
-use Rattle.alm_threads.proofs.Histories.{ahead_front, kept_front, one_of, told_kept}
+use Rattle.alm_threads.proofs.Histories.{ahead_prefix, kept_prefix, one_of, told_kept}
 use Rattle.alm_threads.proofs.Moments.{endures_of, released_shown}
 use Rattle.alm_threads.proofs.ending.close_flusher.Goals as goal
 
@@ -32,10 +32,10 @@ returns-clause-flushed g c =
     r.premise r.recovers reaches (subst (λ l. AreMoments j.honest j.recovers j.base j.first l) c.into_ends-board.ensures.moments c.stands.ensures) r.last in
     rw (c.into_ends-board.ensures.parts.0, c.into_ends-board.ensures.parts.1, c.into_ends-board.ensures.parts.2, c.into_ends-board.ensures.moments) (record {
       kept = entries_in before ++ stored_of f.held;
-      fetched = kept_front before f.held (fetched_of f.fetch) f.held_is;
+      fetched = kept_prefix before f.held (fetched_of f.fetch) f.held_is;
       stored_is = f.stored ∙ ap (λ q. run q (accepted_of (entries_in before ++ stored_of f.held))) base;
       waiting = waiting_of f.held;
-      ahead = ahead_front before f.held (fetched_of f.fetch) f.held_is;
+      ahead = ahead_prefix before f.held (fetched_of f.fetch) f.held_is;
       device = (c.requires.honest, λ h b is. one_of (s.recovers b) (s.state f.store).stored (s.state f.store).next _ (images h b is) f.either);
       told = told;
       within = told_kept before f.held;

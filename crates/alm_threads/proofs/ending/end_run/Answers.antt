@@ -9,7 +9,7 @@ use Rattle.alm_threads.specs.Causes.{StopsFor}
 use Rattle.alm_threads.specs.Finished.{IsAllAnswered}
 use Rattle.alm_threads.specs.Histories.{AreInOrder}
 use Rattle.alm_threads.specs.Same.{AllIdle, AllSame}
-use Rattle.alm_threads.proofs.Causes.{in_order_front}
+use Rattle.alm_threads.proofs.Causes.{in_order_prefix}
 use Rattle.alm_threads.proofs.Finished.{all_same_length}
 use Rattle.alm_threads.proofs.ending.end_run.Goals as goal
 
@@ -54,7 +54,7 @@ returns-clause-failed g c = λ why spent.
     let failed : b.failed ≡ true = same.4 ∙ subst (λ o. IfSome o (λ w. StopsFor w new.failed new.refused)) why c.finish-cause.ensures.stopped in
     let base = c.finish-cause.ensures.live ∙ (c.requires.live ∙ (sym c.finish-cause.ensures.kept.2 ∙ ap g.B.Board.base (sym same.1))) in
     let order =
-    in_order_front (g.B.Board.base b.flusher.board) (fetched_of b.flusher.fetch) (sealed_of c.batches_beside.new.seal) (coming_in b.flusher.fetch, c.batches_beside.ensures.fetched)
+    in_order_prefix (g.B.Board.base b.flusher.board) (fetched_of b.flusher.fetch) (sealed_of c.batches_beside.new.seal) (coming_in b.flusher.fetch, c.batches_beside.ensures.fetched)
     (subst (λ x. AreInOrder (g.B.Board.base b.flusher.board) (sealed_of x)) c.rings_of-rings.ensures.ends
     (subst (λ (q : Condensed). AreInOrder q (sealed_of c.rings_of-rings.result.ends)) base c.rings_of-rings.ensures.judged.in_order)) in
     subst (λ k. ∥ HasFailed (d.failures (s.disk c.args.flusher.first.value)) (d.failures (s.disk k)) ∥₁) (sym parts.0)

@@ -16,7 +16,7 @@ use Rattle.alm_threads.specs.Slots.{AreTied}
 use Rattle.alm_threads.specs.Sources.{AllAccount, states_of}
 use Rattle.alm_threads.proofs.Accounts.{states_are}
 use Rattle.alm_threads.proofs.Answering.{answers_by, nobody_asked}
-use Rattle.alm_threads.proofs.Tied.{stands_at, apart_by, map_count, front_on, entries_front, same_slots}
+use Rattle.alm_threads.proofs.Tied.{stands_at, apart_by, map_count, prefix_on, entries_prefix, same_slots}
 use Rattle.alm_threads.proofs.running.run_with_bells.Goals as goal
 
 pub slot_parts_of-slot_parts-requires-clause-place : goal.slot_parts_of-slot_parts-requires-clause-place
@@ -69,16 +69,16 @@ returns-clause-run g c =
         entries = entries;
         legal = f.judged.judged.legal;
         kept = f.flushed.flushed.kept;
-        front = front_on f.flushed.flushed.kept (entries_in fetched) entries f.flushed.flushed.fetched (front_on (entries_in fetched) (entries_in sealed) entries (entries_front fetched sealed c.report_of.ensures.fetched) f.judged.judged.sealed);
+        prefix = prefix_on f.flushed.flushed.kept (entries_in fetched) entries f.flushed.flushed.fetched (prefix_on (entries_in fetched) (entries_in sealed) entries (entries_prefix fetched sealed c.report_of.ensures.fetched) f.judged.judged.sealed);
         stored_is = ap (λ k. (g.K.Store.state k).stored) c.report_of.ensures.keeper ∙ f.flushed.flushed.stored_is;
         waiting = f.flushed.flushed.waiting;
-        ahead = front_on (f.flushed.flushed.kept ++ f.flushed.flushed.waiting) (entries_in fetched) entries f.flushed.flushed.ahead (front_on (entries_in fetched) (entries_in sealed) entries (entries_front fetched sealed c.report_of.ensures.fetched) f.judged.judged.sealed);
+        ahead = prefix_on (f.flushed.flushed.kept ++ f.flushed.flushed.waiting) (entries_in fetched) entries f.flushed.flushed.ahead (prefix_on (entries_in fetched) (entries_in sealed) entries (entries_prefix fetched sealed c.report_of.ensures.fetched) f.judged.judged.sealed);
         device = subst (λ (k : _). LeavesOneOf (g.K.Device.Disk.honest (g.K.Store.disk p.middle.flusher.store)) (g.K.Device.Disk.honest (g.K.Store.disk k)) g.K.Store.recovers (g.K.Device.Disk.state (g.K.Store.disk k)) (g.K.Store.state k).stored (run (g.K.Store.state k).stored (accepted_of f.flushed.flushed.waiting)))
             (sym c.report_of.ensures.keeper) f.flushed.flushed.device;
         told = f.flushed.flushed.told;
         within = f.flushed.flushed.within;
         course = endures_on g.K.Store.recovers (g.K.Store.state p.middle.flusher.store).stored (g.K.Device.Disk.honest (g.K.Store.disk p.middle.flusher.store)) (g.K.Device.Disk.state (g.K.Store.disk p.middle.flusher.store)) (g.K.Device.Disk.state (g.K.Store.disk e.flusher.store)) (g.K.Device.Disk.state (g.K.Store.disk c.report_of.result.keeper)) e.moments c.report_of.result.moments (accepted_of (entries_in fetched)) (accepted_of entries) _
-            (ap (λ k. g.K.Device.Disk.state (g.K.Store.disk k)) (sym c.report_of.ensures.keeper)) (sym c.report_of.ensures.moments) (accepted_prefix (entries_in fetched) entries (front_on (entries_in fetched) (entries_in sealed) entries (entries_front fetched sealed c.report_of.ensures.fetched) f.judged.judged.sealed)) f.flushed.flushed.course;
+            (ap (λ k. g.K.Device.Disk.state (g.K.Store.disk k)) (sym c.report_of.ensures.keeper)) (sym c.report_of.ensures.moments) (accepted_prefix (entries_in fetched) entries (prefix_on (entries_in fetched) (entries_in sealed) entries (entries_prefix fetched sealed c.report_of.ensures.fetched) f.judged.judged.sealed)) f.flushed.flushed.course;
         only = λ s none. nobody_asked (inbox_at s p.middle.rings.inboxes.items) (inbox_at s e.rings.inboxes.items) (of_slot s entries) (f.judged.inboxes s) (p.only s none) (f.judged.judged.wants s);
         count = c.report_of.ensures.closed.0 ∙ (sym (map_count (λ (x : Console _ _). x.slot) e.consoles.items) ∙ ap length order);
         each = λ k s at. (

@@ -2,7 +2,7 @@ use Rattle.std.proofs.Common.{◌-◌, ◌∙◌, take, sym, refl, subst, arith}
 use Rattle.alm_model.specs.Plant.{Condensed}
 use Rattle.alm_keeper.specs.AsStore.{StandsFor}
 use Rattle.alm_pipeline.specs.World.{after_step}
-use Rattle.alm_store.specs.Recovery.{IsFrontPlant}
+use Rattle.alm_store.specs.Recovery.{IsPrefixPlant}
 use Rattle.alm_pipeline.specs.declared.step.Step.TheVariants as S
 use Rattle.alm_pipeline.specs.declared.step_event.StepEvent.TheVariants as E
 use Rattle.alm_bench.proofs.Carried.{carried, honest_as, open_paced, paced_as, same_count, skips_paced, steps_as, still, there, reopened_between, shut_not_open}
@@ -16,8 +16,8 @@ returns-in-Ok-clause-answer g c = λ honest w m.
     let store = c.in-Ok.pipeline.flusher.store in
     let image = c.in-Ok.ensures.image shut.1 in
     let encodes = c.in-Ok.ensures.encodes is in
-    let front : IsFrontPlant w.base w.accepted w.floor store.stored.plant = (shut.2 (g.D.Disk.state store.disk).bytes image).each store.stored.plant encodes in
-    (shut.0, omega (arith, front.enough, c.count-count.ensures), omega (arith, front.no_more, c.count-count.ensures))
+    let prefix : IsPrefixPlant w.base w.accepted w.floor store.stored.plant = (shut.2 (g.D.Disk.state store.disk).bytes image).each store.stored.plant encodes in
+    (shut.0, omega (arith, prefix.enough, c.count-count.ensures), omega (arith, prefix.no_more, c.count-count.ensures))
 
 pub returns-in-Ok-clause-stands : goal.returns-in-Ok-clause-stands
 returns-in-Ok-clause-stands g c = λ honest w m.
@@ -27,10 +27,10 @@ returns-in-Ok-clause-stands g c = λ honest w m.
     let n = c.count-count.result in
     let image = c.in-Ok.ensures.image shut.1 in
     let encodes = c.in-Ok.ensures.encodes is in
-    let front : IsFrontPlant w.base w.accepted w.floor store.stored.plant = (shut.2 (g.D.Disk.state store.disk).bytes image).each store.stored.plant encodes in
+    let prefix : IsPrefixPlant w.base w.accepted w.floor store.stored.plant = (shut.2 (g.D.Disk.state store.disk).bytes image).each store.stored.plant encodes in
     still (after_step w S.Reopen (E.Opened n)) _ _ (sym c.put.ensures.setup) (
       c.in-Ok.ensures.«open» w.base (take (n - w.base.panel.count) w.accepted) w.floor
-          (found w.base w.accepted w.floor store.stored.plant n c.count-count.ensures front) (reaches w.base w.accepted w.floor store.stored.plant n c.count-count.ensures front),
+          (found w.base w.accepted w.floor store.stored.plant n c.count-count.ensures prefix) (reaches w.base w.accepted w.floor store.stored.plant n c.count-count.ensures prefix),
       is,
     )
 
@@ -44,9 +44,9 @@ returns-in-Ok-clause-moves g c = λ honest w m.
     let n = c.count-count.result in
     let image = c.in-Ok.ensures.image shut.1 in
     let encodes = c.in-Ok.ensures.encodes is in
-    let front : IsFrontPlant w.base w.accepted w.floor store.stored.plant = (shut.2 bytes image).each store.stored.plant encodes in
+    let prefix : IsPrefixPlant w.base w.accepted w.floor store.stored.plant = (shut.2 bytes image).each store.stored.plant encodes in
     carried w S.Reopen (E.Opened n) k k k _ _ _ _ _ refl (same_count c.args.self.now.answer _ _ c.put.ensures.answer c.in-Shut.ensures.answer) c.in-Shut.ensures.setup (sym c.put.ensures.setup)
-    (image, c.in-Ok.ensures.settled shut.1, subst (λ (q : Condensed). StandsFor bytes q) (found w.base w.accepted w.floor store.stored.plant n c.count-count.ensures front) encodes, c.in-Ok.ensures.idle, refl)
+    (image, c.in-Ok.ensures.settled shut.1, subst (λ (q : Condensed). StandsFor bytes q) (found w.base w.accepted w.floor store.stored.plant n c.count-count.ensures prefix) encodes, c.in-Ok.ensures.idle, refl)
 
 pub returns-in-Err-clause-answer : goal.returns-in-Err-clause-answer
 returns-in-Err-clause-answer g c = λ honest w m.

@@ -4,7 +4,7 @@ use Rattle.alm_model.specs.Step.{run}
 use Rattle.alm_rings.specs.Batches.{fetched_of}
 use Rattle.alm_flush.specs.Replies.{replies_to}
 use Rattle.alm_flush.specs.HeldBatch.{batches_of, published_entries, stored_of, released_entries}
-use Rattle.alm_flush.proofs.HeldLaws.{run_more, front_nothing}
+use Rattle.alm_flush.proofs.HeldLaws.{run_more, prefix_nothing}
 use Rattle.std.proofs.Math.Logic.{∥∥₁_map}
 use Rattle.alm_model.specs.Rules.{admits_all}
 use Rattle.alm_flush.proofs.flusher.Flusher.advance.Goals as goal
@@ -26,7 +26,7 @@ invariant_of-self g c =
       stored = c.in-Committed.ensures.stores.answer.1 ∙ (ap (λ p. run p (accepted_of items)) stood ∙ run_more base before items);
       published = old.published ∙ ap (λ h. accepted_of (before ++ published_entries h)) was;
       logged = old.logged ∙ ap (λ h. logged_of (before ++ published_entries h)) was;
-      pending = front_nothing (g.B.Board.pending old.board) (logged_of items) (rw was at old.pending);
+      pending = prefix_nothing (g.B.Board.pending old.board) (logged_of items) (rw was at old.pending);
       released = λ s. old.released s ∙ ap (λ h. replies_to (of_slot s (before ++ released_entries h))) was;
       number_is = old.number_is ∙ ap (λ h. base.panel.count + length (accepted_of (before ++ released_entries h))) was;
       numbers = old.numbers;

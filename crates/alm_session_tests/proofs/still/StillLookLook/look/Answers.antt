@@ -14,7 +14,7 @@ use Rattle.alm_model.specs.Lists.{exists, list_of, moments_in}
 use Rattle.alm_model.specs.declared.list.List.{List as Choice}
 use Rattle.alm_model.specs.declared.list.List.TheVariants as choice
 use Rattle.alm_board.specs.Looks.{LookAnswers}
-use Rattle.alm_board.proofs.FrontLaws.{front_self}
+use Rattle.alm_board.proofs.PrefixOfLaws.{prefix_of_self}
 use Rattle.alm_session_tests.proofs.still.StillLookLook.look.Goals as goal
 
 state_shows : (o : Option RowState) → state_report o ≡ Err Stopped → ⊥
@@ -54,8 +54,8 @@ never_stopped q (Row i) h = row_shows (slice_get q.panel.rows i.0) (slice_get q.
 
 still_refuses : (q : Condensed) (query : Query) (before after : Answer) (refusal : Refusal) → IsLook q query before after (Err refusal) → LookAnswers q [] [] query before after (Err refusal)
 still_refuses q query before after Stopped h = absurd (never_stopped q query h.0)
-still_refuses q query before after OutOfMemory h = (refl, ([], (front_self [], h)))
-still_refuses q query before after refusal h = (refl, ([], (front_self [], h)))
+still_refuses q query before after OutOfMemory h = (refl, ([], (prefix_of_self [], h)))
+still_refuses q query before after refusal h = (refl, ([], (prefix_of_self [], h)))
 
 pub returns-in-Err-clause-answer : goal.returns-in-Err-clause-answer
 returns-in-Err-clause-answer g c = still_refuses (g.P.Alarms.plant c.args.self.now.plant) c.args.query c.args.answer.now c.look.new.answer c.in-Err.refusal c.in-Err.ensures

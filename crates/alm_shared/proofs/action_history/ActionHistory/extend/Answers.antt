@@ -5,7 +5,7 @@ use Rattle.alm_model.specs.Step.{run}
 use Rattle.alm_model.proofs.Legal.{actions_append, admitted_both, logged_length}
 use Rattle.alm_shared.specs.Growing.{joined_actions}
 use Rattle.alm_shared.proofs.Counted.{logged_most}
-use Rattle.alm_shared.proofs.Fronts.{joined_more}
+use Rattle.alm_shared.proofs.Prefixes.{joined_more}
 use Rattle.alm_shared.proofs.action_history.ActionHistory.extend.Goals as goal
 
 pub overflow_sub-more : goal.overflow_sub-more

@@ -7,7 +7,7 @@ use Rattle.alm_shared.proofs.shared_look.SharedLookLook.look.Goals as goal
 
 pub returns-in-Err-clause-answer : goal.returns-in-Err-clause-answer
 returns-in-Err-clause-answer g c =
-    rw c.in-Err.ensures.0 (missing_answers g.J.RunId.base (logged_actions c.args.self.now.known.front) c.args.query c.args.answer.now (λ list. c.in-Err.ensures.1 list ∙ ap Err c.in-Err.ensures.0))
+    rw c.in-Err.ensures.0 (missing_answers g.J.RunId.base (logged_actions c.args.self.now.known.prefix) c.args.query c.args.answer.now (λ list. c.in-Err.ensures.1 list ∙ ap Err c.in-Err.ensures.0))
 
 pub enter_as-requires : goal.enter_as-requires
-enter_as-requires g c = λ shown views kept at. (record { looks = (view c.in-Some.reader.place).looks + 1; seen = shown.told.front }, tt, (refl, refl))
+enter_as-requires g c = λ shown views kept at. (record { looks = (view c.in-Some.reader.place).looks + 1; seen = shown.told.prefix }, tt, (refl, refl))

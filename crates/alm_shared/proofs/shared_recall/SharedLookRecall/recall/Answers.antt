@@ -3,4 +3,4 @@ use Rattle.left_right.specs.Sides.{view}
 use Rattle.alm_shared.proofs.shared_recall.SharedLookRecall.recall.Goals as goal
 
 pub enter_as-requires : goal.enter_as-requires
-enter_as-requires g c = λ shown views kept at. (record { looks = (view c.in-Some.reader.place).looks + 1; seen = shown.told.front }, tt, (refl, refl))
+enter_as-requires g c = λ shown views kept at. (record { looks = (view c.in-Some.reader.place).looks + 1; seen = shown.told.prefix }, tt, (refl, refl))

@@ -11,12 +11,12 @@ pub invariant_of-self : goal.invariant_of-self
 invariant_of-self g c =
     let old = c.args.self.now in
     let base = g.J.RunId.base in
-    let front = old.told.front in
+    let prefix = old.told.prefix in
     let more = c.args.actions.now in
-    let fact : g.P.Alarms.plant c.apply_logged.new.plant ≡ run base (logged_actions c.args.told.front) =
+    let fact : g.P.Alarms.plant c.apply_logged.new.plant ≡ run base (logged_actions c.args.told.prefix) =
     c.apply_logged.ensures.fold ∙ (ap (λ p. run p (logged_actions more)) old.is_fold
-    ∙ (sym (run_append base (logged_actions front) (logged_actions more)) ∙ ap (run base) (sym (actions_append front more) ∙ ap logged_actions (sym c.requires.next)))) in
-    let told : c.apply_logged.new.recent ≡ last most_kept (events_from base c.args.told.front) =
-    c.apply_logged.ensures.told (events_from base front) old.remembers ∙ ap (last most_kept)
-    (ap (λ p. events_from base front ++ events_from p more) old.is_fold ∙ (sym (events_append base front more) ∙ ap (events_from base) (sym c.requires.next))) in
+    ∙ (sym (run_append base (logged_actions prefix) (logged_actions more)) ∙ ap (run base) (sym (actions_append prefix more) ∙ ap logged_actions (sym c.requires.next)))) in
+    let told : c.apply_logged.new.recent ≡ last most_kept (events_from base c.args.told.prefix) =
+    c.apply_logged.ensures.told (events_from base prefix) old.remembers ∙ ap (last most_kept)
+    (ap (λ p. events_from base prefix ++ events_from p more) old.is_fold ∙ (sym (events_append base prefix more) ∙ ap (events_from base) (sym c.requires.next))) in
     record { is_fold = fact; remembers = told }

@@ -28,14 +28,14 @@ record-requires g c =
     let all = accepted_of (entries_in (fetched_of o.fetch)) in
     let more = accepted_of (entries_in (fetched_of n.fetch)) in
     let same = ap g.K.Device.Disk.state e.store.disk in
-    let front = accepted_prefix (entries_in (fetched_of o.fetch)) (entries_in (fetched_of n.fetch)) (entries_prefix (fetched_of o.fetch) (fetched_of n.fetch) (fetched_more c.fetch-fetched.result o.held n.held o.fetch n.fetch e.answer)) in
+    let prefix = accepted_prefix (entries_in (fetched_of o.fetch)) (entries_in (fetched_of n.fetch)) (entries_prefix (fetched_of o.fetch) (fetched_of n.fetch) (fetched_more c.fetch-fetched.result o.held n.held o.fetch n.fetch e.answer)) in
     let stands = subst (λ (k : _). (g.K.Device.Disk.honest (s.disk k)) → (i : List ℕ) → IsImage (g.K.Device.Disk.state (s.disk k)) i → ∥ s.recovers i (s.state k).stored ⊎ s.recovers i (s.state k).next ∥₁) c.keeper.ensures.keeper c.images.ensures.stands in
     rw (c.keeper-2.ensures.keeper, c.fetch_ends.ensures) (record {
-      follows = λ h. ∣ by_none (now_of j.base j.first r.recorder) old new all more r.floor r.floor r.last same front (omega arith) ∣₁;
+      follows = λ h. ∣ by_none (now_of j.base j.first r.recorder) old new all more r.floor r.floor r.last same prefix (omega arith) ∣₁;
       safe = λ h. ∥∥₁_elim r.honest (hlevel props) (λ p. ∥∥₁_map
           (named_safe j.recovers s.recovers g.met.K.Store.one g.met.K.Store.rules r.recovers j.base before (fetched_of o.fetch) o.held r.floor old (s.state o.store).stored (s.state o.store).next
           o.held_is (o.stored ∙ ap (λ q. run q (accepted_of (entries_in before ++ stored_of o.held))) (sym r.base)) o.either r.stored (stands (p h)))
-          (safe_with_more j.recovers j.base old new all more r.floor same front));
+          (safe_with_more j.recovers j.base old new all more r.floor same prefix));
     })
 
 -- no batch was fetched

@@ -8,7 +8,7 @@ use Rattle.alm_moments.specs.declared.recorded_moment.RecordedMoment.{RecordedMo
 use Rattle.alm_moments.specs.Moments.{moment_of, now_of}
 use Rattle.alm_rings.specs.Batches.{fetched_of}
 use Rattle.alm_flush.specs.HeldBatch.{ready_of, stored_of}
-use Rattle.alm_threads.proofs.Histories.{kept_front}
+use Rattle.alm_threads.proofs.Histories.{kept_prefix}
 use Rattle.alm_threads.proofs.Moments.{accepted_prefix, shown_stored}
 use Rattle.alm_threads.proofs.Causes.{given_up_by_publish}
 use Rattle.alm_threads.proofs.Recorded.{stored_by_publish, shown_next}
@@ -40,7 +40,7 @@ publish-published-requires g c =
         omega (arith, floor, ap length shown, ap (λ (m : RecordedMoment). m.floor) last),
         ∣ subst (λ (l : List Action). IsPrefix l (now_of j.base j.first c.moments-moments.result).accepted) (sym shown)
             (subst (λ (l : List Action). IsPrefix list l) (sym (ap (λ (m : RecordedMoment). m.accepted) last))
-            (accepted_prefix (entries_in before ++ stored_of o.held) (entries_in (fetched_of o.fetch)) (kept_front before o.held (fetched_of o.fetch) o.held_is))) ∣₁,
+            (accepted_prefix (entries_in before ++ stored_of o.held) (entries_in (fetched_of o.fetch)) (kept_prefix before o.held (fetched_of o.fetch) o.held_is))) ∣₁,
       );
     }
 

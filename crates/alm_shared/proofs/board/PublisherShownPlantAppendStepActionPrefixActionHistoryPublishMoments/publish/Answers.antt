@@ -5,7 +5,7 @@ use Rattle.alm_types.specs.declared.logged_action.LoggedAction.{LoggedAction}
 use Rattle.alm_model.specs.Judging.{logged_actions, logged_of}
 use Rattle.alm_model.proofs.Legal.{actions_append, actions_logged}
 use Rattle.alm_shared.specs.SharedBoards.{board_shown}
-use Rattle.alm_shared.proofs.board.PublisherShownPlantAppendStepFrontActionHistoryPublishMoments.publish.Goals as goal
+use Rattle.alm_shared.proofs.board.PublisherShownPlantAppendStepActionPrefixActionHistoryPublishMoments.publish.Goals as goal
 
 on_ok : {A E : Type 0} (r : Result A E) (X Y : Type 0) → (X → Y) → OnOk r X → OnOk r Y
 on_ok (Ok a) X Y f x = f x

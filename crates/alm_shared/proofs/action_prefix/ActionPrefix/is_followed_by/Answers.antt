@@ -3,9 +3,9 @@ use Rattle.std.proofs.lemmas.Bool.Decides.{nat_tests}
 use Rattle.alm_model.specs.Judging.{logged_actions}
 use Rattle.alm_model.specs.Rules.{AllAdmitted}
 use Rattle.alm_model.proofs.Legal.{actions_append, admitted_append}
-use Rattle.alm_moments.proofs.Fronts.{prefix_shorter}
-use Rattle.alm_shared.proofs.Fronts.{followed_by}
-use Rattle.alm_shared.proofs.front.Front.is_followed_by.Goals as goal
+use Rattle.alm_moments.proofs.Prefixes.{prefix_shorter}
+use Rattle.alm_shared.proofs.Prefixes.{followed_by}
+use Rattle.alm_shared.proofs.action_prefix.ActionPrefix.is_followed_by.Goals as goal
 
 pub returns-clause-next : goal.returns-clause-next
 returns-clause-next g c is =

@@ -2,11 +2,11 @@ use Rattle.std.proofs.Common.{◌≡◌, ◌++◌, ◌-◌, length, drop, ap, su
 use Rattle.alm_model.specs.Judging.{logged_actions, logged_of}
 use Rattle.alm_model.proofs.Legal.{actions_append, actions_logged}
 use Rattle.alm_moments.specs.Moments.{AreHeld}
-use Rattle.alm_board.specs.Fronts.{IsFront}
-use Rattle.alm_board.proofs.FrontLaws.{front_length}
+use Rattle.alm_board.specs.PrefixesOf.{IsPrefixOf}
+use Rattle.alm_board.proofs.PrefixOfLaws.{prefix_of_length}
 use Rattle.alm_shared.specs.SharedBoards.{board_shown}
-use Rattle.alm_shared.proofs.Behinds.{handed_front, handed_rest}
-use Rattle.alm_shared.proofs.handing.Publisher+ShownPlant+J+P+AppendStep+J+Front+J+ActionHistory+J.hand_over.Goals as goal
+use Rattle.alm_shared.proofs.Behinds.{handed_prefix, handed_rest}
+use Rattle.alm_shared.proofs.handing.Publisher+ShownPlant+J+P+AppendStep+J+ActionPrefix+J+ActionHistory+J.hand_over.Goals as goal
 
 pub last_of-requires : goal.last_of-requires
 last_of-requires g c =
@@ -16,10 +16,10 @@ last_of-requires g c =
     let acc = logged_of c.args.batch.now.entries in
     let ahead = c.if-not-is_ahead.ensures.0 refl in
     let reached = c.reach.ensures in
-    let handed : IsFront h (s ++ acc) = handed_front s h old.extra acc ahead.0 ahead.1 c.requires.same in
-    let shown : c.shown.result.now.told.front ≡ s = ap (λ v. v.told.front) (c.shown.ensures ∙ reached.published) in
+    let handed : IsPrefixOf h (s ++ acc) = handed_prefix s h old.extra acc ahead.0 ahead.1 c.requires.same in
+    let shown : c.shown.result.now.told.prefix ≡ s = ap (λ v. v.told.prefix) (c.shown.ensures ∙ reached.published) in
     record {
-      more = omega (arith, c.len-handed.ensures.length, c.len.ensures, c.len-2.ensures.length, ap length shown, ap length reached.handed, ap length reached.reached, length-append s acc, front_length s h ahead.0, front_length h (s ++ acc) handed);
+      more = omega (arith, c.len-handed.ensures.length, c.len.ensures, c.len-2.ensures.length, ap length shown, ap length reached.handed, ap length reached.reached, length-append s acc, prefix_of_length s h ahead.0, prefix_of_length h (s ++ acc) handed);
     }
 
 pub hand-requires : goal.hand-requires
@@ -30,8 +30,8 @@ hand-requires g c =
     let acc = logged_of c.args.batch.now.entries in
     let ahead = c.if-not-is_ahead.ensures.0 refl in
     let reached = c.reach.ensures in
-    let handed : IsFront h (s ++ acc) = handed_front s h old.extra acc ahead.0 ahead.1 c.requires.same in
-    let shown : c.shown.result.now.told.front ≡ s = ap (λ v. v.told.front) (c.shown.ensures ∙ reached.published) in
+    let handed : IsPrefixOf h (s ++ acc) = handed_prefix s h old.extra acc ahead.0 ahead.1 c.requires.same in
+    let shown : c.shown.result.now.told.prefix ≡ s = ap (λ v. v.told.prefix) (c.shown.ensures ∙ reached.published) in
     let from : length h - length s ≡ c.len-handed.result - c.len-2.result = omega (arith, c.len-handed.ensures.length, c.len-2.ensures.length, ap length shown, ap length reached.handed) in
     let rest : drop (length h - length s) acc ≡ c.in_ok-actions.actions.items = ap (λ n. drop n acc) from ∙ sym c.in_ok-actions.ensures in
     record {

@@ -1,10 +1,10 @@
 use Rattle.std.proofs.Common.{◌≤◌, length, arith, List}
 use mathlib.Core.List.{IsPrefix}
 use Rattle.alm_types.specs.declared.logged_action.LoggedAction.{LoggedAction}
-use Rattle.alm_moments.proofs.Fronts.{prefix_shorter}
+use Rattle.alm_moments.proofs.Prefixes.{prefix_shorter}
 use Rattle.alm_shared.specs.Growing.{joined_actions}
-use Rattle.alm_shared.proofs.Fronts.{prefix_joined}
-use Rattle.alm_shared.proofs.front.Front.longer.Goals as goal
+use Rattle.alm_shared.proofs.Prefixes.{prefix_joined}
+use Rattle.alm_shared.proofs.action_prefix.ActionPrefix.longer.Goals as goal
 
 -- of two prefixes of one history the one of fewer actions is a prefix of the other
 shorter : (v w both : List (List LoggedAction)) → IsPrefix v both → IsPrefix w both → length (joined_actions v) ≤ length (joined_actions w) → IsPrefix (joined_actions v) (joined_actions w)

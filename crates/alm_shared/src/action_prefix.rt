@@ -5,7 +5,7 @@ ghost use Rattle.alm_model.specs.Judging.{logged_actions};
 ghost use Rattle.alm_model.specs.Rules.{AllAdmitted};
 ghost use Rattle.alm_model.specs.Step.{run};
 ghost use Rattle.alm_types.specs.Sizes.{most_actions};
-ghost use Rattle.alm_board.specs.Fronts.{IsFront};
+ghost use Rattle.alm_board.specs.PrefixesOf.{IsPrefixOf};
 ghost use Rattle.alm_shared.specs.Growing.{HasLast, joined_actions};
 
 use crate::append_actions::Growth;
@@ -19,12 +19,12 @@ use std::marker::Model;
 /// A prefix of a run's history that was seen: eight bytes, however long. Each action is admitted at its turn. Contracts see it as
 /// its actions, each with its request.
 #[derive(Drop)]
-pub struct Front<J: RunId> {
+pub struct ActionPrefix<J: RunId> {
     len: u64,
     seen: HistoryPrefix<Growth, OfActions<J>>,
 }
 
-impl<J: RunId> Model for Front<J> {
+impl<J: RunId> Model for ActionPrefix<J> {
     ghost use Rattle.std.specs.Prelude.{◌≡◌, List, length};
     ghost use Rattle.alm_types.specs.declared.logged_action.LoggedAction.{LoggedAction};
     ghost use Rattle.alm_model.specs.Judging.{logged_actions};
@@ -40,18 +40,18 @@ impl<J: RunId> Model for Front<J> {
 }
 
 /// What the next turn of a board shows, if these actions were handed over.
-impl<J: RunId> NextShown for Front<J> {
-    ghost next_shown = { λ front. front };
+impl<J: RunId> NextShown for ActionPrefix<J> {
+    ghost next_shown = { λ prefix. prefix };
 }
 
-impl<J: RunId> Front<J> {
+impl<J: RunId> ActionPrefix<J> {
     // What was seen, with its length.
-    pub(crate) fn new(len: u64, seen: HistoryPrefix<Growth, OfActions<J>>) -> Front<J>
+    pub(crate) fn new(len: u64, seen: HistoryPrefix<Growth, OfActions<J>>) -> ActionPrefix<J>
         requires length { len ≡ length (joined_actions seen) }
         requires admitted { AllAdmitted J.base (logged_actions (joined_actions seen)) }
         ensures { result ≡ joined_actions seen }
     {
-        Front { len, seen }
+        ActionPrefix { len, seen }
     }
 
     /// How many actions it holds.
@@ -64,17 +64,17 @@ impl<J: RunId> Front<J> {
     }
 
     /// The same prefix.
-    pub fn again(&self) -> Front<J>
+    pub fn again(&self) -> ActionPrefix<J>
         ensures { result ≡ self.now }
     {
-        Front {
+        ActionPrefix {
             len: self.len,
             seen: self.seen.again(),
         }
     }
 
     /// The longer of two prefixes: it begins with the other.
-    pub fn longer(&self, other: &Front<J>) -> Front<J>
+    pub fn longer(&self, other: &ActionPrefix<J>) -> ActionPrefix<J>
         ensures one { (result ≡ self.now) ⊎ (result ≡ other.now) }
         ensures this { IsPrefix self.now result }
         ensures that { IsPrefix other.now result }
@@ -89,8 +89,8 @@ impl<J: RunId> Front<J> {
     }
 
     // Whether `other` begins with this prefix: it does if it is no shorter.
-    pub(crate) fn begins(&self, other: &Front<J>) -> bool
-        ensures { IsTrue result ↔ IsFront self.now other.now }
+    pub(crate) fn begins(&self, other: &ActionPrefix<J>) -> bool
+        ensures { IsTrue result ↔ IsPrefixOf self.now other.now }
     {
         // for the proof: one of two prefixes of a history begins with the other
         drop(self.longer(other));
@@ -98,7 +98,7 @@ impl<J: RunId> Front<J> {
     }
 
     /// Whether `next` is this prefix with exactly its last actions more, which are `actions`.
-    pub fn is_followed_by(&self, next: &Front<J>, actions: &[LoggedAction]) -> bool
+    pub fn is_followed_by(&self, next: &ActionPrefix<J>, actions: &[LoggedAction]) -> bool
         requires last { HasLast next.now actions.now }
         ensures longer { IsTrue result ↔ (length next.now ≡ length self.now + length actions.now) }
         ensures next { IsTrue result → next.now ≡ self.now ++ actions.now }
