@@ -207,9 +207,7 @@ class Damages:
         """How many reads an opening makes."""
         counts = os.path.join(self.folder, "counts")
         shutil.copyfile(self.path, self.path + ".counted")
-        run = run_words(
-            self.program, ["desk", self.path + ".counted"], {"LD_PRELOAD": library, "ALM_COUNTS": counts}
-        )
+        run = run_words(self.program, ["desk", self.path + ".counted"], {"LD_PRELOAD": library, "ALM_COUNTS": counts})
         check(run.returncode == 0, "a desk", run.stderr)
         with open(counts, encoding="ascii") as file:
             return int(dict(line.split() for line in file)["pread"])
