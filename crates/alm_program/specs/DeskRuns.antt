@@ -63,7 +63,7 @@ pub record IsDeskFrom {D : Type 0} (d : Disk.Ghosts D) (start : List ℕ) (back 
   pub over : IsDeskOver d device back input old new done
 
 -- the device isn't opened, for its cause, and this is the fault of that
-pub record IsRefused {D : Type 0} (d : Disk.Ghosts D) (device : D) (fault : Fault) : Type 0 where
+pub record DeskIsNotOpened {D : Type 0} (d : Disk.Ghosts D) (device : D) (fault : Fault) : Type 0 where
   pub why : OpenFault
   pub now : D
   pub named : fault ≡ fault_of_open why
@@ -73,7 +73,7 @@ pub record IsRefused {D : Type 0} (d : Disk.Ghosts D) (device : D) (fault : Faul
 
 -- no desk is run over the device: there is no memory, or it isn't opened
 abbrev pub IsNotRun : {D : Type 0} (d : Disk.Ghosts D) (device : D) (fault : Fault) → Type 0
-IsNotRun d device fault = (fault ≡ OutOfMemory) ⊎ IsRefused d device fault
+IsNotRun d device fault = (fault ≡ OutOfMemory) ⊎ DeskIsNotOpened d device fault
 
 -- a file held the bytes `start`, and no desk is run over it: the file isn't opened, or a device that began with these bytes isn't run
 abbrev pub IsNotRunFrom : {D : Type 0} (d : Disk.Ghosts D) (start : List ℕ) (fault : Fault) → Type 0

@@ -123,5 +123,5 @@ EndsBy (Ok _) old new status = (status ≡ 0) × (new ≡ old)
 EndsBy (Err fault) old new status = (status ≡ status_of fault) × IsTold old new fault
 
 -- .. whatever it came to
-abbrev pub IsEnd : Option (List ℕ) → Option (List ℕ) → ℕ → Type 0
-IsEnd old new status = ((status ≡ 0) × (new ≡ old)) ⊎ ((fault : Fault) × (status ≡ status_of fault) × IsTold old new fault)
+abbrev pub EndsAnyhow : Option (List ℕ) → Option (List ℕ) → ℕ → Type 0
+EndsAnyhow old new status = ((status ≡ 0) × (new ≡ old)) ⊎ ((fault : Fault) × (status ≡ status_of fault) × IsTold old new fault)

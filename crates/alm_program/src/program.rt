@@ -4,7 +4,7 @@ ghost use Rattle.std.specs.Prelude.{◌≡◌, IfOk, string_bytes};
 ghost use Rattle.std.specs.Process.{exit_status};
 ghost use Rattle.alm_program.specs.Jobs.{AreEndpoints, IsJob};
 ghost use Rattle.alm_program.specs.Orders.{endpoints_of, order_of};
-ghost use Rattle.alm_program.specs.Faults.{EndsBy, IsEnd};
+ghost use Rattle.alm_program.specs.Faults.{EndsBy, EndsAnyhow};
 ghost use Rattle.alm_program.specs.ServeOrders.{IsAskedInWords, IsOrderOf};
 ghost use Rattle.alm_program.specs.OwnedEndpoints.{AreOwnedEndpoints, at_of};
 
@@ -152,7 +152,7 @@ pub fn run_local<R: Input + Print + Env + Files<File = File> + AllocGlobal, E: i
     rt: &R,
     errors: &mut E,
 ) -> ExitCode
-    ensures { IsEnd (E.contents errors.old) (E.contents errors.new) (exit_status result) }
+    ensures { EndsAnyhow (E.contents errors.old) (E.contents errors.new) (exit_status result) }
 {
     end_of(run_alone(rt), errors)
 }

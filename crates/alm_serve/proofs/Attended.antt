@@ -12,7 +12,7 @@ use Rattle.alm_session.specs.Turns.{Learns, LearnsAll, LineAnswer, Looks, SlotSt
 use Rattle.alm_session.specs.Unanswered.{Heard}
 use Rattle.alm_session.proofs.Steps.{with_looks}
 use Rattle.alm_threads.specs.Slots.{AreNewConsoles}
-use Rattle.alm_threads.specs.Sources.{Accounts, AllAccount, SourceState, TookTurns, reported_of, state_of, states_of}
+use Rattle.alm_threads.specs.Sources.{Accounts, AllAccount, SourceState, TookTurns, reported_of, source_state, states_of}
 use Rattle.alm_serve.proofs.Talks.{talks_by}
 use Rattle.alm_serve.specs.Ports.{AllAttended, AllTalked, AreUnused, Attended, AttendsAll, IsUnused, PortState, PortTraffic, Talked, any_looks, port_state, side_of}
 use Rattle.alm_serve.specs.Service.{Attends, as_heard, stage}
@@ -75,16 +75,16 @@ module _ {R T L : Type 0} (base : Condensed) (knows : L → List Action) where
 module _ {R T L : Type 0} {g : Ghosts T} (base : Condensed) (knows : L → List Action) where
   -- a port that began at a new console
   one_attended : (did : SourceState (SlotPort R T) L → SourceState (SlotPort R T) L → Type 0) → AreTurns base knows did → (was now : SlotPort R T) (look : L) (first last : Console T g)
-      → sent_of first ≡ [] → received_of first ≡ [] → Accounts did (state_of was look first) now last → Attended base was now last
+      → sent_of first ≡ [] → received_of first ≡ [] → Accounts did (source_state was look first) now last → Attended base was now last
   one_attended did turns was now look first last sent received one =
-      let all = attended base knows did turns (state_of was look first) one.before (state_of now one.look last) one.turns in
+      let all = attended base knows did turns (source_state was look first) one.before (source_state now one.look last) one.turns in
       record {
         knew = knows look;
         knows = knows one.look;
         before = map (port_of base knows) one.before;
         turns = subst (λ (xs : List Want). AttendsAll base (port_state was (knows look) xs []) (map (port_of base knows) one.before) (port_state now (knows one.look) (sent_of last) (heard_by last))) sent
             (subst (λ (rs : List (Receipt T g)). AttendsAll base (port_state was (knows look) (sent_of first) (map as_heard (map reported_of rs))) (map (port_of base knows) one.before) (port_state now (knows one.look) (sent_of last) (heard_by last))) received
-            (subst (λ (h : List Heard). AttendsAll base (port_of base knows (state_of was look first)) (map (port_of base knows) one.before) (port_state now (knows one.look) (sent_of last) h)) (heard_same (received_of last)) all));
+            (subst (λ (h : List Heard). AttendsAll base (port_of base knows (source_state was look first)) (map (port_of base knows) one.before) (port_state now (knows one.look) (sent_of last) h)) (heard_same (received_of last)) all));
       }
 
   pub all_attended : (did : SourceState (SlotPort R T) L → SourceState (SlotPort R T) L → Type 0) → AreTurns base knows did → (ports : List (SlotPort R T)) (looks : List L) (consoles : List (Console T g)) (later : List (SlotPort R T)) (closed : List (Console T g))

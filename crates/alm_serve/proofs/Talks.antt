@@ -13,7 +13,7 @@ use Rattle.alm_session.specs.Turns.{IsByItsReceipt, IsTurn, Learns, LearnsAll, L
 use Rattle.alm_session.specs.Unanswered.{Heard}
 use Rattle.alm_session.specs.declared.unanswered.Unanswered.{Unanswered}
 use Rattle.alm_serve.specs.Ports.{AttendsAll, PortState, any_looks}
-use Rattle.alm_serve.specs.Service.{Attends, IsFresh, IsUntouched}
+use Rattle.alm_serve.specs.Service.{Attends, IsFresh, MovesNothing}
 use Rattle.alm_serve.specs.Talks.{AreTalks, IsTalk, Talk}
 use Rattle.alm_serve.specs.declared.connection.Connection.{Connection}
 use Rattle.alm_serve.specs.declared.connection.Connection.TheVariants.{Awaited, Open, Ended}
@@ -81,7 +81,7 @@ module _ (base : Condensed) where
       }
 
   -- nothing was read, written or sent, and these receipts came
-  untouched : (talks : List Talk) (a b : SlotState) → IsUntouched a b → b.heard ≡ a.heard → Sums talks a → Sums talks b
+  untouched : (talks : List Talk) (a b : SlotState) → MovesNothing a b → b.heard ≡ a.heard → Sums talks a → Sums talks b
   untouched talks a b same heard sums = record {
     came = ap (λ i. i.came) same.input ∙ sums.came;
     written = same.written ∙ sums.written;
@@ -95,7 +95,7 @@ module _ (base : Condensed) where
   is_dropping : (t : Talk) (got : List Heard) → IsTalk base t → IsTalk base (dropping t got)
   is_dropping t got is = record { untaken = is.untaken; unanswered = is.unanswered; unwritten = is.unwritten; lines = is.lines; order = is.order; text = is.text; named = is.named }
 
-  dropped_too : (talks : List Talk) (t : Talk) (a b : SlotState) (got : List Heard) → IsUntouched a b → b.heard ≡ a.heard ++ got → Sums (talks ++ t ∷ []) a → Sums (talks ++ dropping t got ∷ []) b
+  dropped_too : (talks : List Talk) (t : Talk) (a b : SlotState) (got : List Heard) → MovesNothing a b → b.heard ≡ a.heard ++ got → Sums (talks ++ t ∷ []) a → Sums (talks ++ dropping t got ∷ []) b
   dropped_too talks t a b got same heard sums =
       let u = dropping t got in
       record {

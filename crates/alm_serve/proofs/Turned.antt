@@ -10,7 +10,7 @@ use Rattle.alm_session.specs.declared.session.Session.{Session}
 use Rattle.alm_session.proofs.Drained.{drained_none}
 use Rattle.alm_session.proofs.Steps.{still}
 use Rattle.alm_serve.specs.Ports.{PortTraffic, side_of, traffic_of}
-use Rattle.alm_serve.specs.Service.{Attends, IsUntouched, without_wire}
+use Rattle.alm_serve.specs.Service.{Attends, MovesNothing, without_wire}
 use Rattle.alm_serve.specs.declared.slot_port.SlotPort.{SlotPort}
 use Rattle.alm_serve.specs.declared.connection.Connection.{Connection}
 use Rattle.alm_serve.specs.declared.connection.Connection.TheVariants.{Awaited, Open, Ended}
@@ -19,7 +19,7 @@ use Rattle.alm_serve.specs.declared.connection.Connection.TheVariants.{Awaited, 
 none : (looks : Looks) (base : Condensed) (a : SlotState) → IsTurn looks base 0 a a
 none looks base a = still base a a refl refl refl refl refl refl refl refl refl refl
 
-untouched : (a : SlotState) → IsUntouched a a
+untouched : (a : SlotState) → MovesNothing a a
 untouched a = record { input = refl; written = refl; sent = refl }
 
 pub kept : (looks : Looks) (base : Condensed) (was : Connection (Unit {0})) (a : SlotState) → Attends looks base was was a a

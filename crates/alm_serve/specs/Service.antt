@@ -56,7 +56,7 @@ module _ {W : Type 0} where
         ⊎ ((result ≡ served.Idle) × (connection ≡ Ended) × (length (received_of console) < length (sent_of console)))
 
 -- nothing was read, written or sent
-pub record IsUntouched (a b : SlotState) : Type 0 where
+pub record MovesNothing (a b : SlotState) : Type 0 where
   pub input : b.input ≡ a.input
   pub written : b.written ≡ a.written
   pub sent : b.sent ≡ a.sent
@@ -70,7 +70,7 @@ without_wire other = other
 -- sent, received or learnt, and one that begins is fresh. With an open one it is a turn of the session. What an ended one leaves is
 -- received and dropped, nothing is read, written or sent, and the next one is awaited once no request is unanswered
 abbrev pub Attends : Looks → Condensed → (was now : Connection (Unit {0})) → (a b : SlotState) → Type 0
-Attends looks base Awaited now a b = IsUntouched a b × (b.heard ≡ a.heard) × (b.known ≡ a.known) × (now ≡ Open tt → IsFresh b.held b.waiting b.left)
+Attends looks base Awaited now a b = MovesNothing a b × (b.heard ≡ a.heard) × (b.known ≡ a.known) × (now ≡ Open tt → IsFresh b.held b.waiting b.left)
 Attends looks base (Open wire) now a b = IsTurn looks base 0 a b × (now ≢ Awaited)
 Attends looks base Ended now a b =
-    IsUntouched a b × IsDrained base a.known a.heard b.known b.heard × (now ≢ Open tt) × (now ≡ Awaited → length b.sent ≤ length b.heard)
+    MovesNothing a b × IsDrained base a.known a.heard b.known b.heard × (now ≢ Open tt) × (now ≡ Awaited → length b.sent ≤ length b.heard)

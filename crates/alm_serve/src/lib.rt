@@ -113,7 +113,7 @@ mod slot_service;
 mod slot_stream;
 mod socket_folder;
 mod sockets;
-mod stop;
+mod stopper;
 mod store_end;
 mod stream_wire;
 mod traffic;

@@ -1,7 +1,7 @@
 //! Scrubs the device of a run.
 
 use crate::found::{Found, print_found};
-use crate::stop::Stop;
+use crate::stopper::Stopper;
 use alm_disk::Disk;
 use alm_file::{Pause, ScrubFile, ScrubRead};
 use alm_keeper::open_store;
@@ -30,7 +30,7 @@ pub struct Scrub<'r, R> {
     rt: &'r R,
     file: ScrubFile,
     seconds: u32,
-    stop: Stop<'r, R>,
+    stop: Stopper<'r, R>,
     healing: Healing,
 }
 
@@ -68,7 +68,7 @@ impl<'r, R> Scrub<'r, R> {
             rt,
             file,
             seconds,
-            stop: Stop::new(rt),
+            stop: Stopper::new(rt),
             healing: Healing::new(),
         }
     }

@@ -1,7 +1,7 @@
 //! The program in its own process.
 
 ghost use Rattle.std.specs.Process.{exit_status};
-ghost use Rattle.alm_program.specs.Faults.{IsEnd};
+ghost use Rattle.alm_program.specs.Faults.{EndsAnyhow};
 
 use crate::serving::{result_of, serve_file};
 use alm_file::Unknown;
@@ -31,7 +31,7 @@ pub fn run_in_process<
     R: Input + Print + Env + Files<File = File> + Net + Threads + Wait + Clock + Sync + AllocGlobal,
     E: io::Write,
 >(rt: &R, errors: &mut E) -> ExitCode
-    ensures { IsEnd (E.contents errors.old) (E.contents errors.new) (exit_status result) }
+    ensures { EndsAnyhow (E.contents errors.old) (E.contents errors.new) (exit_status result) }
 {
     end_of(run(rt), errors)
 }

@@ -11,7 +11,7 @@ use Rattle.alm_lines.specs.declared.line.Line.{Line}
 use Rattle.alm_lines.specs.Stream.{held_behind}
 use Rattle.alm_board.specs.PrefixesOf.{IsPrefixOf}
 use Rattle.alm_session.specs.Intakes.{Untaken, lines_from, lines_in, open_in}
-use Rattle.alm_session.specs.Wires.{WireInput, Gives}
+use Rattle.alm_session.specs.Wires.{WireInput, ReadsGive}
 use Rattle.alm_session.specs.Turns.{LineAnswer, by_receipt, by_look, look_refused, no_room, stopped, bad_line, unasked, answer_text, LineKind, waiting_kind, line_kind, kinds, heards, unasked_receipts, wants, LearnsAll, Learns, refused_next, refused_over, SlotState, IsTurn, Looks, no_looks, by_recall, forgotten, recall_stopped}
 use Rattle.alm_session.specs.Unanswered.{Heard, IsAnsweredBy}
 use Rattle.alm_session.specs.declared.unanswered.Unanswered.{Unanswered}
@@ -20,7 +20,7 @@ consumes_nil : (o : Option (List ℕ)) → Consumes o o []
 consumes_nil None = tt
 consumes_nil (Some xs) = refl
 
-gives_nil : (i : WireInput) → Gives i i []
+gives_nil : (i : WireInput) → ReadsGive i i []
 gives_nil i = (sym (append-nil i.came), consumes_nil i.coming)
 
 -- what stays of one that is put after no others
@@ -127,7 +127,7 @@ wrote_some {looks} base a b n some within held waiting left known input written 
 
 -- bytes are read, if no line was held
 pub read_some : {looks : Looks} (base : Condensed) (a b : SlotState) → a.held.line ≡ None → a.held.rest ≡ [] → b.held ≡ record a.held { rest = b.held.rest } → 1 ≤ length b.held.rest → b.waiting ≡ a.waiting → b.left ≡ a.left
-    → b.known ≡ a.known → Gives a.input b.input b.held.rest → b.written ≡ a.written → b.sent ≡ a.sent → b.heard ≡ a.heard → b.refused ≡ a.refused → IsTurn looks base 1 a b
+    → b.known ≡ a.known → ReadsGive a.input b.input b.held.rest → b.written ≡ a.written → b.sent ≡ a.sent → b.heard ≡ a.heard → b.refused ≡ a.refused → IsTurn looks base 1 a b
 read_some {looks} base a b none empty held some waiting left known input written sent heard refused = record {
   got = b.held.rest;
   wrote = [];

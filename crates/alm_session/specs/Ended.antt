@@ -5,7 +5,7 @@ use Rattle.alm_model.specs.Plant.{Condensed}
 use Rattle.alm_session.specs.Intakes.{lines_from, lines_in}
 use Rattle.alm_session.specs.Turns.{LineAnswer, answer_text, line_kind, kinds, heards, unasked_receipts, LearnsAll, Looks, SlotState}
 use Rattle.alm_session.specs.Unanswered.{Heard}
-use Rattle.alm_session.specs.Wires.{Gives}
+use Rattle.alm_session.specs.Wires.{ReadsGive}
 
 -- no bytes have come, none are to be written, and no request of the slot is unanswered
 abbrev pub IsNew : SlotState → Type 0
@@ -27,7 +27,7 @@ HaveSerials next (heard ∷ heards) = (heard.serial ≡ next) × HaveSerials (ne
 pub record IsAnswered (looks : Looks) (base : Condensed) (a b : SlotState) : Type 0 where
   pub got : List ℕ
   pub met : List LineAnswer
-  pub read : Gives a.input b.input got
+  pub read : ReadsGive a.input b.input got
   pub lines : map line_kind (lines_from [] got) ≡ flat_map kinds met
   pub written : b.written ≡ a.written ++ flat_map (answer_text base) met
   pub heard : b.heard ≡ a.heard ++ flat_map heards met

@@ -3,8 +3,8 @@ use Rattle.std.specs.Prelude.{ℕ, List, drop, take}
 use Rattle.alm_session.specs.declared.mem_wire.MemWire.{MemWire}
 
 -- what was read
-abbrev pub given_of : MemWire → List ℕ
-given_of w = take w.at w.input.items
+abbrev pub came_over : MemWire → List ℕ
+came_over w = take w.at w.input.items
 
 -- what is still to come
 abbrev pub input_of : MemWire → List ℕ

@@ -28,7 +28,7 @@ use Rattle.alm_session.specs.Intakes.{Untaken, lines_from, lines_in, open_in}
 use Rattle.alm_session.specs.Outputs.{output_limit}
 use Rattle.alm_session.specs.Unanswered.{Heard, IsAnsweredBy}
 use Rattle.alm_session.specs.declared.unanswered.Unanswered.{Unanswered}
-use Rattle.alm_session.specs.Wires.{WireInput, Gives}
+use Rattle.alm_session.specs.Wires.{WireInput, ReadsGive}
 
 -- what looks were made: by the query, or by the number after which is reported, and its result
 pub record Looks : Type 1 where
@@ -213,7 +213,7 @@ pub record IsTurn (looks : Looks) (base : Condensed) (least : ℕ) (a b : SlotSt
   pub wrote : List ℕ
   pub taken : List Line
   pub met : List LineAnswer
-  pub read : Gives a.input b.input got
+  pub read : ReadsGive a.input b.input got
   pub lines : lines_in a.held ++ lines_from (open_in a.held) got ≡ taken ++ lines_in b.held
   pub open_line : open_in b.held ≡ held_behind (open_in a.held) got
   pub order : map waiting_kind a.waiting ++ map line_kind taken ≡ flat_map kinds met ++ map waiting_kind b.waiting

@@ -32,8 +32,8 @@ pub record WireInput : Type 0 where
   pub coming : Option (List ℕ)
 
 -- reads gave these bytes
-abbrev pub Gives : WireInput → WireInput → List ℕ → Type 0
-Gives old new bytes = (new.came ≡ old.came ++ bytes) × Consumes old.coming new.coming bytes
+abbrev pub ReadsGive : WireInput → WireInput → List ℕ → Type 0
+ReadsGive old new bytes = (new.came ≡ old.came ++ bytes) × Consumes old.coming new.coming bytes
 
 -- a read returns at least one byte and no more than there is room for; what it was blocked or failed by is counted
 abbrev pub ReadCounts : ReadGave → ℕ → Counts → Counts → Type 0
@@ -49,7 +49,7 @@ WriteCounts write.Failed room old new = new ≡ failed_call old
 
 -- what a read returns comes then, and is taken from what will; at the end no byte is left
 abbrev pub ReadBytes : ReadGave → List ℕ → WireInput → WireInput → Type 0
-ReadBytes (read.Got n) buffer old new = Gives old new (take n buffer)
+ReadBytes (read.Got n) buffer old new = ReadsGive old new (take n buffer)
 ReadBytes read.End buffer old new = (new ≡ old) × IsAtEnd new.coming
 ReadBytes read.Blocked buffer old new = new ≡ old
 ReadBytes read.Failed buffer old new = new ≡ old
@@ -61,7 +61,7 @@ WriteBytes write.Failed bytes old new = new ≡ old
 
 -- what was read is after what was held; else nothing changed
 abbrev pub ReadGives : ReadGave → Untaken → Untaken → WireInput → WireInput → Type 0
-ReadGives (read.Got n) before later old new = (length later.rest ≡ n) × Gives old new later.rest × (later ≡ record before { rest = later.rest })
+ReadGives (read.Got n) before later old new = (length later.rest ≡ n) × ReadsGive old new later.rest × (later ≡ record before { rest = later.rest })
 ReadGives read.End before later old new = (later ≡ before) × (new ≡ old) × IsAtEnd new.coming
 ReadGives read.Blocked before later old new = (later ≡ before) × (new ≡ old)
 ReadGives read.Failed before later old new = (later ≡ before) × (new ≡ old)

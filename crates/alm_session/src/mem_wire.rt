@@ -47,11 +47,11 @@ impl MemWire {
 
 impl Wire for MemWire {
     ghost use Rattle.std.specs.Prelude.{◌≡◌, Some};
-    ghost use Rattle.alm_session.specs.MemWires.{given_of, input_of, output_of};
+    ghost use Rattle.alm_session.specs.MemWires.{came_over, input_of, output_of};
 
     ghost counts = { λ w. record { blocked_reads = 0; blocked_writes = w.blocked; failed = 0 } };
 
-    ghost input = { λ w. record { came = given_of w; coming = Some (input_of w) } };
+    ghost input = { λ w. record { came = came_over w; coming = Some (input_of w) } };
 
     ghost written = { λ w. output_of w };
 

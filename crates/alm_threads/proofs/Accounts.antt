@@ -5,13 +5,13 @@ use Rattle.alm_rings.specs.declared.console.Console.{Console}
 use Rattle.alm_rings.specs.declared.told.Told.{Ghosts}
 use Rattle.alm_rings.specs.Ends.{sent_of, received_of}
 use Rattle.alm_threads.specs.Same.{AllIdle}
-use Rattle.alm_threads.specs.Sources.{Accounts, AllAccount, Reported, SourceState, TookTurns, reported_of, state_of, states_of}
+use Rattle.alm_threads.specs.Sources.{Accounts, AllAccount, Reported, SourceState, TookTurns, reported_of, source_state, states_of}
 
 module _ {S L T : Type 0} {g : Ghosts T} where
   -- the states of sources, by what has them
-  pub states_are : {P : Type 0} (source : P → S) (look : P → L) (console : P → Console T g) (ps : List P) → map (λ p. state_of (source p) (look p) (console p)) ps ≡ states_of (map source ps) (map look ps) (map console ps)
+  pub states_are : {P : Type 0} (source : P → S) (look : P → L) (console : P → Console T g) (ps : List P) → map (λ p. source_state (source p) (look p) (console p)) ps ≡ states_of (map source ps) (map look ps) (map console ps)
   states_are source look console [] = refl
-  states_are source look console (p ∷ ps) = ap (λ (l : List (SourceState S L)). state_of (source p) (look p) (console p) ∷ l) (states_are source look console ps)
+  states_are source look console (p ∷ ps) = ap (λ (l : List (SourceState S L)). source_state (source p) (look p) (console p) ∷ l) (states_are source look console ps)
 
 module _ {S L T : Type 0} {g : Ghosts T} (did : SourceState S L → SourceState S L → Type 0) where
   -- one more after others

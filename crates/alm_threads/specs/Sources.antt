@@ -30,8 +30,8 @@ module _ {T : Type 0} {g : Ghosts T} where
   abbrev pub reported_of : Receipt T g → Reported
   reported_of r = record { slot = r.slot; serial = r.serial; verdict = r.verdict; number = r.number; opened = g.base_count r.told; list = g.list r.told; logged = g.logged r.told }
 
-  abbrev pub state_of : {S L : Type 0} → S → L → Console T g → SourceState S L
-  state_of source look console = record { source = source; look = look; sent = sent_of console; received = map reported_of (received_of console) }
+  abbrev pub source_state : {S L : Type 0} → S → L → Console T g → SourceState S L
+  source_state source look console = record { source = source; look = look; sent = sent_of console; received = map reported_of (received_of console) }
 
 module _ {S L : Type 0} where
   -- turns led from one state to another, and nothing else did. `before` has the state before each turn, the last turn first
@@ -44,7 +44,7 @@ module _ {S L T : Type 0} {g : Ghosts T} where
   pub record Accounts (did : SourceState S L → SourceState S L → Type 0) (from : SourceState S L) (source : S) (console : Console T g) : Type 0 where
     pub look : L
     pub before : List (SourceState S L)
-    pub turns : TookTurns did from before (state_of source look console)
+    pub turns : TookTurns did from before (source_state source look console)
 
   -- the same of each slot, in their order
   abbrev pub AllAccount : (did : SourceState S L → SourceState S L → Type 0) → List (SourceState S L) → List S → List (Console T g) → Type 0
@@ -54,5 +54,5 @@ module _ {S L T : Type 0} {g : Ghosts T} where
 
   -- the states of sources with these looks at these consoles
   abbrev pub states_of : List S → List L → List (Console T g) → List (SourceState S L)
-  states_of (source ∷ sources) (look ∷ looks) (console ∷ consoles) = state_of source look console ∷ states_of sources looks consoles
+  states_of (source ∷ sources) (look ∷ looks) (console ∷ consoles) = source_state source look console ∷ states_of sources looks consoles
   states_of sources looks consoles = []

@@ -4,15 +4,15 @@ ghost use Rattle.alm_threads.specs.Parts.{AreBack};
 ghost use Rattle.alm_threads.specs.Runs.{IsRunOver};
 ghost use Rattle.alm_threads.specs.Serving.{ServesSlots};
 ghost use Rattle.alm_threads.specs.Slots.{AreTied};
-ghost use Rattle.alm_threads.specs.Sources.{AllAccount, state_of, states_of};
+ghost use Rattle.alm_threads.specs.Sources.{AllAccount, source_state, states_of};
 
 use crate::closes::Closes;
 use crate::closing_board::ClosingBoard;
 use crate::ending::end_run;
 use crate::flusher_parts::FlusherParts;
 use crate::flushing::flush;
-use crate::joined::Joined;
 use crate::joined_ends::JoinedEnds;
+use crate::joined_threads::JoinedThreads;
 use crate::middle::Middle;
 use crate::not_started::NotStarted;
 use crate::parts::Parts;
@@ -59,7 +59,7 @@ fn run_all<
     slots: &'s Vec<Slot>,
     hold: &'s H,
     slot_parts: Vec<SlotParts<T, L, S>>,
-    room: Joined<T, S>,
+    room: JoinedThreads<T, S>,
     board: B,
     middle: Middle<K, T, J>,
 ) -> Result<JoinedEnds<K, T, J, S>, NotStarted<K>>
@@ -83,7 +83,7 @@ where
         (λ e. AreBack K.Store K.Device.Disk (map (λ p. p.console) slot_parts.items) middle.rings
         middle.flusher e.ends) }
     ensures accounts { IfOk result
-        (λ e. AllAccount S.did (map (λ p. state_of p.source p.look p.console) slot_parts.items)
+        (λ e. AllAccount S.did (map (λ p. source_state p.source p.look p.console) slot_parts.items)
         e.sources.items e.ends.consoles.items) }
     ensures refused { IfErr result (λ e. e.store ≡ middle.flusher.store) }
 {
@@ -114,7 +114,7 @@ where
     };
     let mut flusher = RecordedFlusher::new(store, board, outboxes, fetch, recorder);
     flush(rt, flags, healing, &mut flusher);
-    let Joined { consoles, sources } = join_all(rt, sources, room);
+    let JoinedThreads { consoles, sources } = join_all(rt, sources, room);
     Ok(JoinedEnds {
         ends: end_run(rt, consoles, sequencer.join(rt), flusher),
         sources,
@@ -141,7 +141,7 @@ fn in_scope<
     slots: &'s Vec<Slot>,
     hold: &'s H,
     slot_parts: Vec<SlotParts<T, L, S>>,
-    room: Joined<T, S>,
+    room: JoinedThreads<T, S>,
     board: B,
     middle: Middle<K, T, J>,
 ) -> Result<JoinedEnds<K, T, J, S>, NotStarted<K>>
@@ -159,7 +159,7 @@ fn in_scope<
         (λ e. AreBack K.Store K.Device.Disk (map (λ p. p.console) slot_parts.items) middle.rings
         middle.flusher e.ends) }
     ensures accounts { IfOk result
-        (λ e. AllAccount S.did (map (λ p. state_of p.source p.look p.console) slot_parts.items)
+        (λ e. AllAccount S.did (map (λ p. source_state p.source p.look p.console) slot_parts.items)
         e.sources.items e.ends.consoles.items) }
     ensures refused { IfErr result (λ e. e.store ≡ middle.flusher.store) }
 {
@@ -180,7 +180,7 @@ fn in_scope<
                 middle.rings middle.flusher e.ends) }
             ensures accounts { IfOk result
                 (λ e. AllAccount S.did
-                (map (λ p. state_of p.source p.look p.console) slot_parts.items) e.sources.items
+                (map (λ p. source_state p.source p.look p.console) slot_parts.items) e.sources.items
                 e.ends.consoles.items) }
             ensures refused { IfErr result (λ e. e.store ≡ middle.flusher.store) }
         {
@@ -205,7 +205,7 @@ fn in_scope<
 #[derive(Drop)]
 struct Room<T: Told + Drop, L: Look<Told = T> + Drop, S: Source<T, L> + Drop> {
     slot_parts: Vec<SlotParts<T, L, S>>,
-    joined: Joined<T, S>,
+    joined: JoinedThreads<T, S>,
     reports: Vec<Option<SlotReport>>,
 }
 
@@ -228,7 +228,7 @@ fn room_for<T: Told + Drop, L: Look<Told = T> + Drop, S: Source<T, L> + Drop>(
     let reports = Vec::with_capacity(alloc, slots)?;
     Ok(Room {
         slot_parts,
-        joined: Joined { consoles, sources },
+        joined: JoinedThreads { consoles, sources },
         reports,
     })
 }

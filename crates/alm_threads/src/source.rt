@@ -8,7 +8,7 @@ use alm_rings::{Console, Told};
 pub trait Source<T: Told + Drop, L: Look<Told = T>> {
     ghost use Rattle.std.specs.Prelude.{◌≡◌, ℕ, Option, Some};
     ghost use Rattle.alm_rings.specs.Ends.{SameConsole};
-    ghost use Rattle.alm_threads.specs.Sources.{SourceState, state_of};
+    ghost use Rattle.alm_threads.specs.Sources.{SourceState, source_state};
 
     /// The slot for which it was made, if it was made for one alone.
     ghost slot: { Self → Option ℕ };
@@ -21,6 +21,6 @@ pub trait Source<T: Told + Drop, L: Look<Told = T>> {
         requires slot { (n : ℕ) → slot self.old ≡ Some n → console.old.slot ≡ n }
         ensures ends { SameConsole console.old console.new }
         ensures slot { slot self.new ≡ slot self.old }
-        ensures did { did (state_of self.old look.old console.old)
-            (state_of self.new look.new console.new) };
+        ensures did { did (source_state self.old look.old console.old)
+            (source_state self.new look.new console.new) };
 }

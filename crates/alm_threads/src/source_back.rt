@@ -17,9 +17,9 @@ pub struct SourceBack<T: Told + Drop, L: Look<Told = T> + Drop, S: Source<T, L> 
 impl<T: Told + Drop, L: Look<Told = T> + Drop, S: Source<T, L> + Drop> Promise<SourceEnd<T, S>>
     for SourceBack<T, L, S> {
     ghost use Rattle.alm_rings.specs.Ends.{SameConsole};
-    ghost use Rattle.alm_threads.specs.Sources.{Accounts, state_of};
+    ghost use Rattle.alm_threads.specs.Sources.{Accounts, source_state};
 
     ghost kept_by = { λ p r. SameConsole p.0.value.console r.console ×
-        Accounts S.did (state_of p.0.value.source p.0.value.look p.0.value.console) r.source
+        Accounts S.did (source_state p.0.value.source p.0.value.look p.0.value.console) r.source
         r.console };
 }

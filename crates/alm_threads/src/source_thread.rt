@@ -1,7 +1,7 @@
 //! A source's thread.
 ghost use Rattle.std.specs.Prelude.{◌≡◌, ℕ, Some};
 ghost use Rattle.alm_rings.specs.Ends.{SameConsole};
-ghost use Rattle.alm_threads.specs.Sources.{Accounts, state_of};
+ghost use Rattle.alm_threads.specs.Sources.{Accounts, source_state};
 
 use crate::go::Go;
 use crate::source::Source;
@@ -22,7 +22,7 @@ pub fn run_source<
 >(rt: &R, flags: &Flags<B>, console: Console<T>, look: L, source: S) -> SourceEnd<T, S>
     requires slot { (n : ℕ) → S.slot source ≡ Some n → console.slot ≡ n }
     ensures same { SameConsole console result.console }
-    ensures accounts { Accounts S.did (state_of source look console) result.source result.console }
+    ensures accounts { Accounts S.did (source_state source look console) result.source result.console }
 {
     let mut console = console;
     let mut look = look;

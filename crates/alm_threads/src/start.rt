@@ -2,9 +2,9 @@
 ghost use Rattle.std.specs.Prelude.{◌≡◌, ◌≤◌, ℕ, [], map, IfOk, Some, vec_len, vec_capacity};
 ghost use Rattle.alm_rings.specs.Ends.{SameConsole};
 ghost use Rattle.alm_threads.specs.Same.{AllSame};
-ghost use Rattle.alm_threads.specs.Sources.{Accounts, AllAccount, state_of};
+ghost use Rattle.alm_threads.specs.Sources.{Accounts, AllAccount, source_state};
 
-use crate::joined::Joined;
+use crate::joined_threads::JoinedThreads;
 use crate::slot_parts::SlotParts;
 use crate::source::Source;
 use crate::source_back::SourceBack;
@@ -54,7 +54,7 @@ where
         move || -> SourceEnd<T, S>
             requires { (n : ℕ) → S.slot source ≡ Some n → console.slot ≡ n }
             ensures same { SameConsole console result.console }
-            ensures accounts { Accounts S.did (state_of source look console) result.source
+            ensures accounts { Accounts S.did (source_state source look console) result.source
                 result.console }
         { run_source(rt, flags, console, look, source) },
     ) {
@@ -111,18 +111,18 @@ where
 pub fn join_all<T: Told + Drop, L: Look<Told = T> + Drop, S: Source<T, L> + Drop, R: Threads>(
     rt: &R,
     handles: Vec<Handle<T, L, S>>,
-    room: Joined<T, S>,
-) -> Joined<T, S>
+    room: JoinedThreads<T, S>,
+) -> JoinedThreads<T, S>
     requires consoles { (room.consoles.items ≡ []) × (vec_len handles ≤ vec_capacity room.consoles) }
     requires sources { (room.sources.items ≡ []) × (vec_len handles ≤ vec_capacity room.sources) }
     ensures len { vec_len result.consoles ≡ vec_len handles }
     ensures each { AllSame (map (λ p. p.console) (map (λ h. h.promise.0.value) handles.items))
         result.consoles.items }
     ensures accounts { AllAccount S.did
-        (map (λ p. state_of p.source p.look p.console) (map (λ h. h.promise.0.value) handles.items))
+        (map (λ p. source_state p.source p.look p.console) (map (λ h. h.promise.0.value) handles.items))
         result.sources.items result.consoles.items }
 {
-    let Joined {
+    let JoinedThreads {
         mut consoles,
         mut sources,
     } = room;
@@ -131,5 +131,5 @@ pub fn join_all<T: Told + Drop, L: Look<Told = T> + Drop, S: Source<T, L> + Drop
         consoles.push_reserved(end.console);
         sources.push_reserved(end.source);
     }
-    Joined { consoles, sources }
+    JoinedThreads { consoles, sources }
 }

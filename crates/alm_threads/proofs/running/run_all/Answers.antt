@@ -9,7 +9,7 @@ use Rattle.alm_threads.specs.Same.{AllSame}
 use Rattle.alm_threads.specs.declared.rings.Rings.{Rings}
 use Rattle.alm_threads.proofs.Finished.{all_same_on}
 use Rattle.alm_threads.proofs.Accounts.{accounts_on}
-use Rattle.alm_threads.specs.Sources.{AllAccount, state_of}
+use Rattle.alm_threads.specs.Sources.{AllAccount, source_state}
 use Rattle.alm_threads.proofs.Serves.{out_trans, same_at_trans}
 use Rattle.alm_threads.proofs.Tied.{tied_still}
 use Rattle.alm_threads.proofs.running.run_all.Goals as goal
@@ -74,5 +74,5 @@ pub returns-clause-accounts : goal.returns-clause-accounts
 returns-clause-accounts g c =
     let joined = c.join_all-consoles in
     let did = g.S.Source.did in
-    let all = subst (λ ps. AllAccount did (map (λ p. state_of p.source p.look p.console) ps) joined.result.sources.items joined.result.consoles.items) c.in-Ok-start_all.ensures.each joined.ensures.accounts in
-    accounts_on did (map (λ p. state_of p.source p.look p.console) c.args.slot_parts.items) joined.result.sources.items joined.result.consoles.items c.end_run.result.consoles.items c.end_run.ensures.ends.1 all
+    let all = subst (λ ps. AllAccount did (map (λ p. source_state p.source p.look p.console) ps) joined.result.sources.items joined.result.consoles.items) c.in-Ok-start_all.ensures.each joined.ensures.accounts in
+    accounts_on did (map (λ p. source_state p.source p.look p.console) c.args.slot_parts.items) joined.result.sources.items joined.result.consoles.items c.end_run.result.consoles.items c.end_run.ensures.ends.1 all

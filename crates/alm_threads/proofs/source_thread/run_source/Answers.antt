@@ -1,5 +1,5 @@
 use Rattle.std.proofs.Common.{rules, ◌∷◌}
-use Rattle.alm_threads.specs.Sources.{state_of}
+use Rattle.alm_threads.specs.Sources.{source_state}
 use Rattle.alm_threads.proofs.source_thread.run_source.Goals.{in-None, in-Some+then-is_stopped, in-Some+else-is_stopped+in-End}
 use Rattle.alm_threads.proofs.source_thread.run_source.Goals as goal
 
@@ -9,7 +9,7 @@ loop-preserved-in-Go g c =
     record {
       same = search rules;
       slot = search rules;
-      turns = (state_of c.loop.source c.loop.look c.loop.console ∷ inv.turns.0, (c.turn-go.ensures.did, inv.turns.1));
+      turns = (source_state c.loop.source c.loop.look c.loop.console ∷ inv.turns.0, (c.turn-go.ensures.did, inv.turns.1));
     }
 
 pub loop-preserved : goal.loop-preserved
@@ -18,7 +18,7 @@ loop-preserved g c =
     record {
       same = search rules;
       slot = search rules;
-      turns = (state_of c.loop.source c.loop.look c.loop.console ∷ inv.turns.0, (c.turn-go.ensures.did, inv.turns.1));
+      turns = (source_state c.loop.source c.loop.look c.loop.console ∷ inv.turns.0, (c.turn-go.ensures.did, inv.turns.1));
     }
 
 pub returns-clause-accounts : goal.returns-clause-accounts
@@ -30,7 +30,7 @@ returns-clause-accounts g c =
       | in-Some+then-is_stopped w ↦ rw (w.source-is, w.console-is) (record { look = l.look; before = inv.turns.0; turns = inv.turns.1 })
       | in-Some+else-is_stopped+in-End w ↦ rw (w.source-is, w.console-is) (record {
         look = w.turn-go.new.look;
-        before = state_of l.source l.look l.console ∷ inv.turns.0;
+        before = source_state l.source l.look l.console ∷ inv.turns.0;
         turns = (w.turn-go.ensures.did, inv.turns.1);
       })
     ]

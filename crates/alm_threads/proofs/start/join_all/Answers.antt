@@ -1,6 +1,6 @@
 use Rattle.std.proofs.Common.{◌∷◌, [], map, arith, length-append}
 use Rattle.std.proofs.lemmas.List.{map-append}
-use Rattle.alm_threads.specs.Sources.{state_of}
+use Rattle.alm_threads.specs.Sources.{source_state}
 use Rattle.alm_threads.proofs.Accounts.{accounts_snoc}
 use Rattle.alm_threads.proofs.Sames.{all_same_snoc}
 use Rattle.alm_threads.proofs.start.join_all.Goals as goal
@@ -12,7 +12,7 @@ loop-handle-preserved g c =
     let part = c.in-Some.handle.promise.0.value in
     let end = c.join-end.result in
     let same = all_same_snoc (map (λ p. p.console) parts) c.loop-handle.consoles.items part.console end.console inv.same c.join-end.ensures.0 in
-    let accounts = accounts_snoc g.S.Source.did (map (λ p. state_of p.source p.look p.console) parts) c.loop-handle.sources.items c.loop-handle.consoles.items (state_of part.source part.look part.console) end.source end.console inv.accounts c.join-end.ensures.1 in
+    let accounts = accounts_snoc g.S.Source.did (map (λ p. source_state p.source p.look p.console) parts) c.loop-handle.sources.items c.loop-handle.consoles.items (source_state part.source part.look part.console) end.source end.console inv.accounts c.join-end.ensures.1 in
     let consoles = c.push_reserved.ensures in
     let sources = c.push_reserved-in-loop-handle.ensures in
     record {

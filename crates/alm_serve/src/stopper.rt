@@ -11,16 +11,16 @@ const PAUSE: u64 = 2;
 
 /// What ends a thread that waits, and by which it waits.
 #[derive(Drop)]
-pub struct Stop<'r, R> {
+pub struct Stopper<'r, R> {
     rt: &'r R,
     stopped: AtomicBool,
     parker: Parker,
 }
 
-impl<'r, R> Stop<'r, R> {
+impl<'r, R> Stopper<'r, R> {
     /// The thread is to go on.
     pub fn new(rt: &'r R) -> Self {
-        Stop {
+        Stopper {
             rt,
             stopped: AtomicBool::new(false),
             parker: Parker::new(),
@@ -39,7 +39,7 @@ impl<'r, R> Stop<'r, R> {
     }
 }
 
-impl<R: Wait> Stop<'_, R> {
+impl<R: Wait> Stopper<'_, R> {
     /// Waits for a time at most: whether the thread is to go on.
     pub fn wait(&self, time: Duration) -> bool {
         if self.goes_on() {
@@ -49,7 +49,7 @@ impl<R: Wait> Stop<'_, R> {
     }
 }
 
-impl<R: Wait> Pause for Stop<'_, R> {
+impl<R: Wait> Pause for Stopper<'_, R> {
     fn pause(&self) -> bool {
         self.wait(Duration::from_millis(PAUSE))
     }

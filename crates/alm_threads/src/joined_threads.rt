@@ -4,7 +4,7 @@ use alm_rings::{Console, Told};
 
 /// The sources that have ended and their consoles, each in the order of the slots.
 #[derive(Drop)]
-pub struct Joined<T: Told + Drop, S: Drop> {
+pub struct JoinedThreads<T: Told + Drop, S: Drop> {
     pub consoles: Vec<Console<T>>,
     pub sources: Vec<S>,
 }
