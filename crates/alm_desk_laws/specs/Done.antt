@@ -82,8 +82,8 @@ abbrev pub reply_to_since : DeskState → List AnsweredLine → ℕ → ℕ → 
 reply_to_since s lines slot id after = reply (after_lines s lines) (answered_at slot (record { id = id; ask = Recall after }) hindrance.Nothing)
 
 -- a query at a slot is answered next by a report, with the number of actions that are done
-abbrev pub IsPrinted : DeskState → List AnsweredLine → ℕ → ℕ → Query → Report → Type 0
-IsPrinted s lines slot id asked report = reply_to_query s lines slot id asked ≡ told_text id (length (done s lines)) asked report
+abbrev pub PrintsReport : DeskState → List AnsweredLine → ℕ → ℕ → Query → Report → Type 0
+PrintsReport s lines slot id asked report = reply_to_query s lines slot id asked ≡ told_text id (length (done s lines)) asked report
 
 -- the row of an alarm that is shown so, with its attributes and the moments of its annunciations, the latest first
 abbrev pub row_shown : State → Attr → List ℕ → Shown → AlarmRow

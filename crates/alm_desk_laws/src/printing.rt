@@ -27,7 +27,7 @@ ghost use Rattle.alm_laws.specs.Listed.{HasJustThose, IsStaleAlarm, IsChattering
 ghost use Rattle.alm_laws.specs.Refused.{reasons};
 ghost use Rattle.alm_laws.specs.Shown.{IsShownAsItIs};
 ghost use Rattle.alm_laws.specs.Taken.{IsAcceptable};
-ghost use Rattle.alm_desk_laws.specs.Done.{HasAnswered, IsPrinted, done, happened, reply_to_action, reply_to_since, row_shown};
+ghost use Rattle.alm_desk_laws.specs.Done.{HasAnswered, PrintsReport, done, happened, reply_to_action, reply_to_since, row_shown};
 
 /// The plant is the new one after the actions that the lines have done. Each was admitted at its turn.
 pub fn the_plant_is_what_its_lines_have_done()
@@ -60,12 +60,12 @@ pub fn an_alarm_is_printed_as_it_is()
     ensures state { (t : Listing) (s : DeskState) (lines : List AnsweredLine) (q : Condensed) →
         HasAnswered t s lines q → (slot id : ℕ) (i : AlarmId) (r : State) (x : Shown) →
         slice_get q.panel.rows i.0 ≡ Some r → IsShownAsItIs r x →
-        IsPrinted s lines slot id (query.State i) (alarm x r.active (flags_shown r) r.shelved_until) }
+        PrintsReport s lines slot id (query.State i) (alarm x r.active (flags_shown r) r.shelved_until) }
     ensures row { (t : Listing) (s : DeskState) (lines : List AnsweredLine) (q : Condensed) →
         HasAnswered t s lines q → (slot id : ℕ) (i : AlarmId) (r : State) (a : Attr) (x : Shown)
         (moments : List ℕ) → slice_get q.panel.rows i.0 ≡ Some r →
         slice_get q.panel.attrs i.0 ≡ Some a → slice_get q.kept.moments i.0 ≡ Some moments →
-        IsShownAsItIs r x → IsPrinted s lines slot id (query.Row i) (row (Some (row_shown r a moments x))) }
+        IsShownAsItIs r x → PrintsReport s lines slot id (query.Row i) (row (Some (row_shown r a moments x))) }
 {}
 
 /// LIST prints the only list that has just the alarms that belong to it, the earliest stamp first; STALE and CHATTER theirs by number.
@@ -73,23 +73,23 @@ pub fn a_list_is_printed_whole()
     ensures by_priority { (t : Listing) (s : DeskState) (lines : List AnsweredLine) (q : Condensed) →
         HasAnswered t s lines q → (slot id n : ℕ) (out : List ℕ) → 1 ≤ n → n ≤ 4 →
         RisesByStamp q.panel out → HasJustThose q (Priority n) out →
-        IsPrinted s lines slot id (query.Priority n) (alarms out) }
+        PrintsReport s lines slot id (query.Priority n) (alarms out) }
     ensures by_area { (t : Listing) (s : DeskState) (lines : List AnsweredLine) (q : Condensed) →
         HasAnswered t s lines q → (slot id n : ℕ) (out : List ℕ) → n < length q.floods →
         RisesByStamp q.panel out → HasJustThose q (Area n) out →
-        IsPrinted s lines slot id (query.Area n) (alarms out) }
+        PrintsReport s lines slot id (query.Area n) (alarms out) }
     ensures by_deadline { (t : Listing) (s : DeskState) (lines : List AnsweredLine) (q : Condensed) →
         HasAnswered t s lines q → (slot id n : ℕ) (out : List ℕ) → n < 256 →
         RisesByStamp q.panel out → HasJustThose q (Wheel n) out →
-        IsPrinted s lines slot id (query.Wheel n) (alarms out) }
+        PrintsReport s lines slot id (query.Wheel n) (alarms out) }
     ensures stale { (t : Listing) (s : DeskState) (lines : List AnsweredLine) (q : Condensed) →
         HasAnswered t s lines q → (slot id : ℕ) (out : List ℕ) → AllPairs (λ i j. i < j) out →
         ((i : ℕ) → Contains out i ↔ IsStaleAlarm q i) →
-        IsPrinted s lines slot id query.Stale (alarms out) }
+        PrintsReport s lines slot id query.Stale (alarms out) }
     ensures chatter { (t : Listing) (s : DeskState) (lines : List AnsweredLine) (q : Condensed) →
         HasAnswered t s lines q → (slot id : ℕ) (out : List ℕ) → AllPairs (λ i j. i < j) out →
         ((i : ℕ) → Contains out i ↔ IsChatteringAlarm q i) →
-        IsPrinted s lines slot id query.Chatter (alarms out) }
+        PrintsReport s lines slot id query.Chatter (alarms out) }
 {}
 
 /// SINCE prints what the lines have done after a number, in order and at most 256: each action with its slot and the plant's moment
