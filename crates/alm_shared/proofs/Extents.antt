@@ -1,5 +1,5 @@
 -- What exists is reported, and what doesn't is refused whatever was published.
-use Rattle.std.proofs.Common.{◌≡◌, ℕ, ◌<◌, inl, inr, Bool, true, false, List, length, Option, Some, None, refl, ap, sym, subst, arith}
+use Rattle.std.proofs.Common.{◌≡◌, ◌≢◌, ℕ, ◌<◌, inl, inr, Bool, true, false, List, length, Option, Some, None, refl, ap, sym, subst, arith}
 use Rattle.std.specs.Prelude.{Ok, Err, IsOk, slice_get, if◌then◌else◌}
 use Rattle.std.proofs.lemmas.Bool.{ltb-true, ltb-false, le-ltb}
 use Rattle.std.proofs.lemmas.Option.{slice_get_past, slice_get_cases}
@@ -8,7 +8,7 @@ use Rattle.alm_types.specs.declared.answer.Answer.{Answer}
 use Rattle.alm_types.specs.declared.query.Query.{Query}
 use Rattle.alm_types.specs.declared.query.Query.TheVariants.{State, Priority, Area, Wheel, Flood, Stale, Chatter, Plant, Attributes, Row}
 use Rattle.alm_types.specs.declared.refusal.Refusal.{Refusal}
-use Rattle.alm_types.specs.declared.refusal.Refusal.TheVariants.{NoSuchList, OutOfMemory, Stopped}
+use Rattle.alm_types.specs.declared.refusal.Refusal.TheVariants.{NoSuchAlarm, NoSuchList, OutOfMemory, Stopped}
 use Rattle.alm_types.specs.declared.attr.Attr.{Attr}
 use Rattle.alm_types.specs.Reports.{alarms}
 use Rattle.alm_state.specs.Rows.{State as RowState}
@@ -118,3 +118,54 @@ pub refused_answers : (base : Condensed) (known list : List Action) (query : Que
 refused_answers base known list query before after Stopped there prefix is = (refl, is.1, there)
 refused_answers base known list query before after OutOfMemory there prefix is = (refl, (list, (prefix, is)))
 refused_answers base known list query before after refusal there prefix is = (refl, (list, (prefix, is)))
+
+-- no plant answers that it has stopped
+no_state_stops : (state : Option RowState) → state_report state ≢ Err Stopped
+no_state_stops None = λ e. cc e
+no_state_stops (Some s) = λ e. cc e
+
+no_flood_stops : (ages : Option (List ℕ)) (flood : Option Bool) → flood_report ages flood ≢ Err Stopped
+no_flood_stops None flood = λ e. cc e
+no_flood_stops (Some ages) None = λ e. cc e
+no_flood_stops (Some ages) (Some on) = λ e. cc e
+
+no_choice_stops : (list : Choice) (q : Condensed) (there : Bool) → (if there then Ok (alarms (list_of list q)) else Err NoSuchList) ≢ Err Stopped
+no_choice_stops list q true = λ e. cc e
+no_choice_stops list q false = λ e. cc e
+
+no_attributes_stop : (attr : Option Attr) → attributes_report attr ≢ Err Stopped
+no_attributes_stop None = λ e. cc e
+no_attributes_stop (Some a) = λ e. cc e
+
+no_row_stops : (state : Option RowState) (attr : Option Attr) (moments : List ℕ) → row_report state attr moments ≢ Err Stopped
+no_row_stops None attr moments = λ e. cc e
+no_row_stops (Some s) None moments = λ e. cc e
+no_row_stops (Some s) (Some a) moments = λ e. cc e
+
+no_plant_stops : (q : Condensed) (query : Query) → look q query ≢ Err Stopped
+no_plant_stops q (State i) = no_state_stops (slice_get q.panel.rows i.0)
+no_plant_stops q (Flood area) = no_flood_stops (slice_get q.kept.ages area) (slice_get q.floods area)
+no_plant_stops q (Area area) = no_choice_stops (choice.Area area) q (exists (choice.Area area) q)
+no_plant_stops q (Priority n) = no_choice_stops (choice.Priority n) q (exists (choice.Priority n) q)
+no_plant_stops q (Wheel slot) = no_choice_stops (choice.Wheel slot) q (exists (choice.Wheel slot) q)
+no_plant_stops q Stale = no_choice_stops choice.Stale q (exists choice.Stale q)
+no_plant_stops q Chatter = no_choice_stops choice.Chatter q (exists choice.Chatter q)
+no_plant_stops q Plant = λ e. cc e
+no_plant_stops q (Attributes i) = no_attributes_stop (slice_get q.panel.attrs i.0)
+no_plant_stops q (Row i) = no_row_stops (slice_get q.panel.rows i.0) (slice_get q.panel.attrs i.0) (moments_in (slice_get q.kept.moments i.0))
+
+pub no_look_stops : (q : Condensed) (query : Query) (before after : Answer) (refusal : Refusal) → IsLook q query before after (Err refusal) → refusal ≢ Stopped
+no_look_stops q query before after refusal is = λ stopped. no_plant_stops q query (subst (λ (r : Refusal). IsLook q query before after (Err r)) stopped is).0
+
+-- what is missing is no stop
+pub missing_is_no_stop : (query : Query) → missing query ≢ Stopped
+missing_is_no_stop (State i) = λ e. cc e
+missing_is_no_stop (Flood area) = λ e. cc e
+missing_is_no_stop (Area area) = λ e. cc e
+missing_is_no_stop (Priority n) = λ e. cc e
+missing_is_no_stop (Wheel slot) = λ e. cc e
+missing_is_no_stop Stale = λ e. cc e
+missing_is_no_stop Chatter = λ e. cc e
+missing_is_no_stop Plant = λ e. cc e
+missing_is_no_stop (Attributes i) = λ e. cc e
+missing_is_no_stop (Row i) = λ e. cc e

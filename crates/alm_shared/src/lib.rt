@@ -34,6 +34,8 @@
 //! Proved:
 //! - a look of the threads shows such a prefix too, and waits for nobody. It says Stopped only of an alarm or a list that
 //!   exists (by `open_board`, `Look::look`, `learn` at `SharedLook`)
+//! - a look says Stopped only if that very look was turned back. That `GoneCount` counts nothing else was checked by reading (by
+//!   `Look::look`, `Recall::recall` at `SharedLook`)
 //! - **what a look answers is of the list that was published at a step of that very look** (by `Look::look` at `SharedLook`, whose
 //!   `looked` says so)
 //! - the history takes the accepted actions of each batch: no publish is refused for want of a place in it (by the type
@@ -51,6 +53,7 @@ mod append_step;
 mod board;
 mod durable;
 mod extent;
+mod gone_count;
 mod handing;
 pub mod laws;
 mod looks_once;

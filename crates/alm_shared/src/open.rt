@@ -6,6 +6,7 @@ use crate::action_history::ActionHistory;
 use crate::append_actions::Growth;
 use crate::durable::Durable;
 use crate::extent::Extent;
+use crate::gone_count::GoneCount;
 use crate::publisher::Publisher;
 use crate::shared_board::SharedBoard;
 use crate::shared_look::SharedLook;
@@ -94,6 +95,7 @@ fn looks<J: RunId, P: Alarms + Drop>(
     for _ in 0..lookers {
         let look = SharedLook {
             reader: Some(board.reader()?),
+            gone: GoneCount::new(),
             known: told.again(),
             extent: extent.again(),
         };

@@ -1,14 +1,15 @@
 //! A slot's view of a shared board.
-ghost use Rattle.std.specs.Prelude.{◌≡◌, ◌≤◌, length, IsOk, OnOk};
+ghost use Rattle.std.specs.Prelude.{◌≡◌, ◌≤◌, ◌<◌, length, IsOk, IsSome, IfErr, OnOk};
 ghost use Rattle.alm_model.specs.Judging.{logged_actions};
 ghost use Rattle.alm_model.specs.Look.{IsLook, look as told};
 ghost use Rattle.alm_model.specs.Step.{run};
+ghost use Rattle.alm_types.specs.declared.refusal.Refusal.TheVariants.{Stopped};
 ghost use Rattle.alm_board.specs.PrefixesOf.{IsPrefixOf};
 ghost use Rattle.alm_board.specs.Looks.{LookAnswers};
 
 use crate::durable::Durable;
 use crate::extent::Extent;
-use crate::looks_once::LooksOnce;
+use crate::gone_count::GoneCount;
 use crate::reader_sight::ReaderSight;
 use crate::readers_rule::ReadersRule;
 use crate::shown_plant::ShownPlant;
@@ -21,17 +22,20 @@ use left_right::reader::Reader;
 /// A slot's view of the published plant, with all that it knows of it: what it saw and what receipts reported.
 #[derive(Drop)]
 pub struct SharedLook<J: RunId, P: Alarms + Drop> {
-    // It is there between two looks.
     pub reader: Option<Reader<ShownPlant<J, P>, ReaderSight, ReadersRule>>,
+    pub(crate) gone: GoneCount,
     /// What it saw last, or what a receipt reported since.
     pub known: Durable<J>,
     pub(crate) extent: Extent<J>,
+    /// Between two looks the reader is there.
+    pub ghost there: { IsSome reader },
 }
 
 impl<J: RunId, P: Alarms + Drop> Look for SharedLook<J, P> {
-    ghost use Rattle.std.specs.Prelude.{OnOk, option_map};
+    ghost use Rattle.std.specs.Prelude.{◌≡◌, IfErr, OnOk, length, option_map};
+    ghost use Rattle.alm_types.specs.declared.refusal.Refusal.TheVariants.{Stopped};
     ghost use Rattle.alm_model.specs.Judging.{logged_actions};
-    ghost use Rattle.alm_shared.specs.Sights.{HasLooked};
+    ghost use Rattle.alm_shared.specs.Sights.{HasLooked, WasTurnedBack};
     ghost use Rattle.left_right.specs.Sides.{view};
 
     type Told = Durable<J>;
@@ -40,19 +44,22 @@ impl<J: RunId, P: Alarms + Drop> Look for SharedLook<J, P> {
 
     ghost knows = { λ look. logged_actions look.known.prefix };
 
-    /// An answer is of the list that was published as this very look was made.
-    ghost looked = { λ look query result later. OnOk result
-        (HasLooked (option_map (λ reader. view reader.place) look.reader)
-        (option_map (λ reader. view reader.place) later.reader) later.known.prefix) };
+    /// An answer is of the list that was published as this very look was made. It is Stopped only if this look was turned back.
+    ghost looked = { λ look query result later.
+        OnOk result (HasLooked (option_map (λ reader. view reader.place) look.reader)
+        (option_map (λ reader. view reader.place) later.reader) later.known.prefix) ×
+        IfErr result (λ refusal. refusal ≡ Stopped → WasTurnedBack look.gone.gone later.gone.gone
+        (length look.known.prefix) (option_map (λ reader. view reader.place) look.reader)
+        (option_map (λ reader. view reader.place) later.reader)) };
 
     fn look(&mut self, query: Query, answer: &mut Answer) -> Result<u64, Refusal> {
         if let Err(refusal) = self.extent.find(query) {
             return Err(refusal);
         }
         let Some(reader) = self.reader.take() else {
-            return Err(Refusal::Stopped);
+            unreachable!()
         };
-        match reader.enter_as::<LooksOnce>() {
+        match self.gone.enter(reader) {
             Ok(reading) => {
                 let answered = look_at(reading.get(), &mut self.known, query, answer);
                 self.reader = Some(reading.leave());
@@ -89,6 +96,8 @@ fn look_at<J: RunId, P: Alarms + Drop>(
     ensures shown { length known.old.prefix ≤ length shown.now.told.prefix →
         IsLook (run J.base (logged_actions shown.now.told.prefix)) query answer.old answer.new result }
     ensures saw { OnOk result (known.new.prefix ≡ shown.now.told.prefix) }
+    ensures stopped { IfErr result (λ refusal. refusal ≡ Stopped →
+        length shown.now.told.prefix < length known.old.prefix) }
 {
     if shown.told.prefix.len() < known.prefix.len() {
         return Err(Refusal::Stopped);

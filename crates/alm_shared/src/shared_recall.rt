@@ -1,12 +1,11 @@
 //! What happened, by a slot's view of a shared board.
-ghost use Rattle.std.specs.Prelude.{◌≡◌, ◌≤◌, length, vec_capacity, false, IfErr, OnOk};
+ghost use Rattle.std.specs.Prelude.{◌≡◌, ◌≤◌, ◌<◌, length, vec_capacity, false, IfErr, OnOk};
 ghost use Rattle.alm_board.specs.PrefixesOf.{IsPrefixOf};
 ghost use Rattle.alm_board.specs.Recalls.{RecallAnswers};
 ghost use Rattle.alm_events.specs.Events.{asked_after, is_remembered, most_told};
-ghost use Rattle.alm_types.specs.declared.refusal.Refusal.TheVariants.{Forgotten};
+ghost use Rattle.alm_types.specs.declared.refusal.Refusal.TheVariants.{Forgotten, Stopped};
 
 use crate::durable::Durable;
-use crate::looks_once::LooksOnce;
 use crate::shared_look::SharedLook;
 use crate::shown_plant::ShownPlant;
 use alm_board::Recall;
@@ -16,26 +15,30 @@ use alm_moments::RunId;
 use alm_types::{Event, Refusal};
 
 impl<J: RunId, P: Alarms + Drop> Recall for SharedLook<J, P> {
-    ghost use Rattle.std.specs.Prelude.{IfErr, OnOk, option_map};
-    ghost use Rattle.alm_shared.specs.Sights.{HasForgotten, HasLooked};
-    ghost use Rattle.alm_types.specs.declared.refusal.Refusal.TheVariants.{Forgotten};
+    ghost use Rattle.std.specs.Prelude.{◌≡◌, IfErr, OnOk, length, option_map};
+    ghost use Rattle.alm_shared.specs.Sights.{HasForgotten, HasLooked, WasTurnedBack};
+    ghost use Rattle.alm_types.specs.declared.refusal.Refusal.TheVariants.{Forgotten, Stopped};
     ghost use Rattle.left_right.specs.Sides.{view};
 
     ghost logged = { λ look. look.known.prefix };
 
-    /// What is reported is of the list that was published as this very look was made, and what is forgotten is so in that list.
+    /// What is reported is of the list that was published as this very look was made, and what is forgotten is so in that list. It is
+    /// Stopped only if this look was turned back.
     ghost recalled = { λ look after result later.
         OnOk result (HasLooked (option_map (λ reader. view reader.place) look.reader)
         (option_map (λ reader. view reader.place) later.reader) later.known.prefix) ×
         IfErr result (λ refusal. refusal ≡ Forgotten → HasForgotten J.base after
         (option_map (λ reader. view reader.place) look.reader)
+        (option_map (λ reader. view reader.place) later.reader)) ×
+        IfErr result (λ refusal. refusal ≡ Stopped → WasTurnedBack look.gone.gone later.gone.gone
+        (length look.known.prefix) (option_map (λ reader. view reader.place) look.reader)
         (option_map (λ reader. view reader.place) later.reader)) };
 
     fn recall(&mut self, after: Option<u64>, events: &mut Vec<Event>) -> Result<Recalled, Refusal> {
         let Some(reader) = self.reader.take() else {
-            return Err(Refusal::Stopped);
+            unreachable!()
         };
-        match reader.enter_as::<LooksOnce>() {
+        match self.gone.enter(reader) {
             Ok(reading) => {
                 let told = recall_at(reading.get(), &mut self.known, after, events);
                 self.reader = Some(reading.leave());
@@ -66,6 +69,8 @@ fn recall_at<J: RunId, P: Alarms + Drop>(
         is_remembered J.base shown.now.told.prefix (asked_after J.base shown.now.told.prefix after) ≡
         false) }
     ensures saw { OnOk result (known.new.prefix ≡ shown.now.told.prefix) }
+    ensures stopped { IfErr result (λ refusal. refusal ≡ Stopped →
+        length shown.now.told.prefix < length known.old.prefix) }
     ensures room { vec_capacity events.new ≡ vec_capacity events.old }
 {
     if known.prefix.len() > shown.told.prefix.len() {

@@ -1,5 +1,4 @@
-use Rattle.std.proofs.Common.{ap, ◌+◌, ◌∙◌, refl}
-use Rattle.left_right.specs.Sides.{view}
+use Rattle.std.proofs.Common.{ap, ◌∙◌}
 use Rattle.std.specs.Prelude.{Err}
 use Rattle.alm_model.specs.Judging.{logged_actions}
 use Rattle.alm_shared.proofs.Extents.{missing_answers}
@@ -8,6 +7,3 @@ use Rattle.alm_shared.proofs.shared_look.SharedLookLook.look.Goals as goal
 pub returns-in-Err-clause-answer : goal.returns-in-Err-clause-answer
 returns-in-Err-clause-answer g c =
     rw c.in-Err.ensures.0 (missing_answers g.J.RunId.base (logged_actions c.args.self.now.known.prefix) c.args.query c.args.answer.now (λ list. c.in-Err.ensures.1 list ∙ ap Err c.in-Err.ensures.0))
-
-pub enter_as-requires : goal.enter_as-requires
-enter_as-requires g c = λ shown views kept at. (record { looks = (view c.in-Some.reader.place).looks + 1; seen = shown.told.prefix }, tt, (refl, refl))

@@ -1,6 +1,5 @@
-use Rattle.std.proofs.Common.{◌+◌, refl}
-use Rattle.left_right.specs.Sides.{view}
+use Rattle.std.proofs.Common.{rules}
 use Rattle.alm_shared.proofs.shared_recall.SharedLookRecall.recall.Goals as goal
 
-pub enter_as-requires : goal.enter_as-requires
-enter_as-requires g c = λ shown views kept at. (record { looks = (view c.in-Some.reader.place).looks + 1; seen = shown.told.prefix }, tt, (refl, refl))
+pub returns-in-Ok-clause-made : goal.returns-in-Ok-clause-made
+returns-in-Ok-clause-made g c = (search rules, search rules, search rules)
