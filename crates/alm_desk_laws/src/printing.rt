@@ -25,7 +25,7 @@ ghost use Rattle.alm_lines.specs.Reply.{no_text, ok_text};
 ghost use Rattle.alm_desk.specs.Answers.{DeskState, AnsweredLine, request};
 ghost use Rattle.alm_laws.specs.Listed.{HasJustThose, IsStaleAlarm, IsChatteringAlarm};
 ghost use Rattle.alm_laws.specs.Refused.{reasons};
-ghost use Rattle.alm_laws.specs.Shown.{IsShownAsItIs};
+ghost use Rattle.alm_laws.specs.Shown.{IsShownAsItIs, flags_shown};
 ghost use Rattle.alm_laws.specs.Taken.{IsAcceptable};
 ghost use Rattle.alm_desk_laws.specs.Done.{HasAnswered, PrintsReport, done, happened, reply_to_action, reply_to_since, row_shown};
 

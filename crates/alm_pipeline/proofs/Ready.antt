@@ -7,7 +7,7 @@ use Rattle.alm_types.specs.declared.entry.Entry.{Entry}
 use Rattle.alm_model.specs.Plant.{Condensed}
 use Rattle.alm_types.specs.Batches.{Judged}
 use Rattle.alm_model.specs.Rules.{AllAdmitted}
-use Rattle.alm_model.proofs.Legal.{admitted_prefix, accepted_append, legal_admitted, next_batch}
+use Rattle.alm_model.proofs.Legal.{admitted_front, accepted_append, legal_admitted, next_batch}
 use Rattle.alm_flush.specs.HeldBatch.{batches_of, stored_of, next_entry_of}
 use Rattle.alm_flush.specs.Flushes.{IsNext}
 use Rattle.alm_flush.specs.declared.held.Held.{Held}
@@ -53,7 +53,7 @@ next_one h b stored base before fetched coming sealed open' is legal firsts all 
     let lists : sealed ≡ before ++ (b ∷ coming) = sym all ∙ (ap (λ l. l ++ coming) (held ∙ ap (λ h. before ++ batches_of h) is) ∙ append_assoc before (b ∷ []) coming) in
     let stands : stored ≡ run base (accepted_of (entries_in before)) = at ∙ (ap (λ h. run base (accepted_of (entries_in before ++ stored_of h))) is ∙ ap (λ l. run base (accepted_of l)) (append-nil (entries_in before))) in
     let admitted : AllAdmitted base (accepted_of (entries_in sealed)) =
-    admitted_prefix base (accepted_of (entries_in sealed)) (accepted_of open') (subst (AllAdmitted base) (accepted_append (entries_in sealed) open') (legal_admitted base (entries_in sealed ++ open') legal)) in
+    admitted_front base (accepted_of (entries_in sealed)) (accepted_of open') (subst (AllAdmitted base) (accepted_append (entries_in sealed) open') (legal_admitted base (entries_in sealed ++ open') legal)) in
     let next = next_batch base stored before b coming (subst (λ (l : List Judged). firsts_of l ≡ firsts_from (base.panel.count + 1) l) lists firsts)
     (subst (λ (l : List Judged). AllAdmitted base (accepted_of (entries_in l))) lists admitted) stands in
     subst (λ (h : Held). IsNext h stored) (sym is) next

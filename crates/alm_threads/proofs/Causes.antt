@@ -12,7 +12,7 @@ use Rattle.alm_model.specs.Judging.{IsLegal, accepted_of, entries_in, firsts_fro
 use Rattle.alm_model.specs.Plant.{Condensed}
 use Rattle.alm_model.specs.Rules.{AllAdmitted}
 use Rattle.alm_model.specs.Step.{run}
-use Rattle.alm_model.proofs.Legal.{accepted_append, admitted_prefix, entries_append, legal_admitted, next_batch}
+use Rattle.alm_model.proofs.Legal.{accepted_append, admitted_front, entries_append, legal_admitted, next_batch}
 use Rattle.alm_rings.specs.declared.fetch_ends.FetchEnds.{FetchEnds}
 use Rattle.alm_rings.specs.declared.outbox.Outbox.{Outbox}
 use Rattle.alm_rings.specs.declared.told.Told.{Ghosts}
@@ -50,7 +50,7 @@ in_order_prefix base xs ys prefix all =
     let order = subst (λ (l : List Judged). AreInOrder base l) (sym prefix.1) all in
     record {
       firsts = firsts_prefix (base.panel.count + 1) xs prefix.0 order.firsts;
-      admitted = admitted_prefix base (accepted_of (entries_in xs)) (accepted_of (entries_in prefix.0))
+      admitted = admitted_front base (accepted_of (entries_in xs)) (accepted_of (entries_in prefix.0))
           (subst (AllAdmitted base) (ap accepted_of (entries_append xs prefix.0) ∙ accepted_append (entries_in xs) (entries_in prefix.0)) order.admitted);
     }
 
@@ -58,7 +58,7 @@ in_order_prefix base xs ys prefix all =
 pub legal_in_order : (base : Condensed) (batches : List Judged) (open' : List Entry) → firsts_of batches ≡ firsts_from (base.panel.count + 1) batches → IsLegal base (entries_in batches ++ open') → AreInOrder base batches
 legal_in_order base batches open' firsts legal = record {
   firsts = firsts;
-  admitted = admitted_prefix base (accepted_of (entries_in batches)) (accepted_of open')
+  admitted = admitted_front base (accepted_of (entries_in batches)) (accepted_of open')
       (subst (AllAdmitted base) (accepted_append (entries_in batches) open') (legal_admitted base (entries_in batches ++ open') legal));
 }
 
