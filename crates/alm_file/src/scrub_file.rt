@@ -3,7 +3,7 @@
 use crate::disk_cache::forget;
 use crate::file_disk::open_apart;
 use crate::file_fault::FileFault;
-use crate::pause::Pause;
+use crate::pause_between::PauseBetween;
 use crate::scrub_read::ScrubRead;
 use std::fs::{File, Files, OpenOptions};
 
@@ -22,7 +22,10 @@ impl ScrubFile {
 
     /// A reading of it with its present length. The kernel drops its cache of it: what is read comes from the disk, except for what
     /// isn't written yet.
-    pub fn read<'p, P: Pause>(&'p self, pause: &'p P) -> Result<ScrubRead<'p, P>, FileFault> {
+    pub fn read<'p, P: PauseBetween>(
+        &'p self,
+        pause: &'p P,
+    ) -> Result<ScrubRead<'p, P>, FileFault> {
         let size = self.file.metadata()?.len();
         forget(&self.file);
         Ok(ScrubRead::new(&self.file, pause, size))

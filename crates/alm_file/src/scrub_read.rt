@@ -3,7 +3,7 @@
 ghost use Rattle.std.specs.Prelude.{◌≡◌, ◌≤◌, ◌+◌, length, is_ok};
 ghost use Rattle.alm_disk.specs.Failures.{CountsFault, last_count};
 
-use crate::pause::Pause;
+use crate::pause_between::PauseBetween;
 use alm_disk::{Disk, DiskFault};
 use std::fs::File;
 use std::os::unix::fs::FileExt;
@@ -19,7 +19,7 @@ const FACTOR: u64 = 0x0100_0000_01B3;
 
 /// A reading of a device's file. It promises nothing of what it gives, since a call of the device may be under way meanwhile.
 #[derive(Drop)]
-pub struct ScrubRead<'p, P: Pause> {
+pub struct ScrubRead<'p, P: PauseBetween> {
     file: &'p File,
     pause: &'p P,
     size: u64,
@@ -37,7 +37,7 @@ fn sum_of(before: u64, bytes: &[u8]) -> u64 {
     sum
 }
 
-impl<'p, P: Pause> ScrubRead<'p, P> {
+impl<'p, P: PauseBetween> ScrubRead<'p, P> {
     /// A reading of a file of this length.
     pub(crate) fn new(file: &'p File, pause: &'p P, size: u64) -> Self {
         ScrubRead {
@@ -91,7 +91,7 @@ impl<'p, P: Pause> ScrubRead<'p, P> {
     }
 }
 
-impl<P: Pause> Disk for ScrubRead<'_, P> {
+impl<P: PauseBetween> Disk for ScrubRead<'_, P> {
     ghost use Rattle.std.specs.Prelude.{[], false};
 
     // It keeps to no model.

@@ -3,7 +3,7 @@
 use crate::found::{Found, print_found};
 use crate::stopper::Stopper;
 use alm_disk::Disk;
-use alm_file::{Pause, ScrubFile, ScrubRead};
+use alm_file::{PauseBetween, ScrubFile, ScrubRead};
 use alm_keeper::open_store;
 use alm_wake::Healing;
 use std::alloc::Global;
@@ -42,7 +42,7 @@ struct Look {
 }
 
 // Opens a device again, on which `stored` actions are known to be stored.
-fn look_at<P: Pause>(alloc: Global, file: ScrubRead<'_, P>, stored: u64) -> Look {
+fn look_at<P: PauseBetween>(alloc: Global, file: ScrubRead<'_, P>, stored: u64) -> Look {
     match open_store(alloc, file) {
         Ok(keeper) => {
             let count = keeper.count();

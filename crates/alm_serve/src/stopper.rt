@@ -1,6 +1,6 @@
 //! What ends a thread that waits.
 
-use alm_file::Pause;
+use alm_file::PauseBetween;
 use std::sync::Wait;
 use std::sync::atomic::{AtomicBool, Ordering};
 use std::thread::Parker;
@@ -49,7 +49,7 @@ impl<R: Wait> Stopper<'_, R> {
     }
 }
 
-impl<R: Wait> Pause for Stopper<'_, R> {
+impl<R: Wait> PauseBetween for Stopper<'_, R> {
     fn pause(&self) -> bool {
         self.wait(Duration::from_millis(PAUSE))
     }
