@@ -1,17 +1,23 @@
 -- What a slot's service does in a step.
-use Rattle.std.specs.Prelude.{◌≡◌, ◌≢◌, ◌⊎◌, ◌≤◌, ◌<◌, ℕ, List, [], Option, None, Some, length}
+use Rattle.std.specs.Prelude.{◌≡◌, ◌≢◌, ◌⊎◌, ◌≤◌, ◌<◌, ◌+◌, ℕ, List, [], Option, None, Some, length}
+use Rattle.alm_types.specs.Counts.{one_more}
+use Rattle.alm_types.specs.Sizes.{most_out}
 use Rattle.alm_model.specs.Plant.{Condensed}
 use Rattle.alm_rings.specs.declared.told.Told.{Ghosts}
 use Rattle.alm_rings.specs.declared.console.Console.{Console}
 use Rattle.alm_rings.specs.Ends.{sent_of, received_of}
 use Rattle.alm_session.specs.Draining.{IsDrained}
 use Rattle.alm_session.specs.Intakes.{Untaken}
+use Rattle.alm_session.specs.Sides.{IsQuiet, Turns}
 use Rattle.alm_session.specs.Turns.{IsTurn, Looks, SlotState}
 use Rattle.alm_session.specs.Unanswered.{Heard}
+use Rattle.alm_session.specs.Wires.{Counts}
+use Rattle.alm_session.specs.declared.session.Session.{Session}
 use Rattle.alm_session.specs.declared.unanswered.Unanswered.{Unanswered}
 use Rattle.alm_session.specs.declared.turn.Turn.{Turn}
 use Rattle.alm_session.specs.declared.turn.Turn.TheVariants as turn
 use Rattle.alm_threads.specs.Sources.{Reported}
+use Rattle.alm_serve.specs.declared.call_watch.CallWatch.{CallWatch}
 use Rattle.alm_serve.specs.declared.connection.Connection.{Connection}
 use Rattle.alm_serve.specs.declared.connection.Connection.TheVariants.{Awaited, Open, Ended}
 use Rattle.alm_serve.specs.declared.served.Served.{Served}
@@ -74,3 +80,18 @@ Attends looks base Awaited now a b = MovesNothing a b × (b.heard ≡ a.heard) �
 Attends looks base (Open wire) now a b = IsTurn looks base 0 a b × (now ≢ Awaited)
 Attends looks base Ended now a b =
     MovesNothing a b × IsDrained base a.known a.heard b.known b.heard × (now ≢ Open tt) × (now ≡ Awaited → length b.sent ≤ length b.heard)
+
+-- a device call was found to take too long
+abbrev pub IsLate : {R : Type 0} → Option (CallWatch R) → Option (CallWatch R) → Type 0
+IsLate (Some was) (Some now) = now.late ≡ one_more was.late
+IsLate was now = ⊥
+
+module _ {T : Type 0} {g : Ghosts T} (looks : Looks) (base : Condensed) where
+  -- what a port did for its clients in a turn after which it is where it was, by its wire's counts and by how often nobody waited.
+  -- Without a connection nobody waited for one. An open one was given a turn of its session that went, or that could do nothing.
+  -- Of one that has ended no receipt is known to wait, or as many came as a slot may have out
+  abbrev pub Serves : (was now : Connection Counts) → (nobody later : ℕ) → Session → (before after : Console T g) → (a b : SlotState) → Type 0
+  Serves Awaited Awaited nobody later session before after a b = later ≡ one_more nobody
+  Serves (Open old) (Open new) nobody later session before after a b = IsTurn looks base 1 a b ⊎ Turns turn.Idle session before after old new None
+  Serves Ended Ended nobody later session before after a b = IsQuiet after ⊎ (length (received_of before) + most_out ≤ length (received_of after))
+  Serves was now nobody later session before after a b = Unit {0}

@@ -2,6 +2,7 @@
 
 ghost use Rattle.std.specs.Prelude.{◌≡◌, ◌≤◌, IfOk};
 
+use crate::listening_socket::ListeningSocket;
 use crate::port_fault::PortFault;
 use crate::slot_bell::SlotBell;
 use crate::slot_listener::SlotListener;
@@ -53,6 +54,7 @@ impl Bound {
         let port = first + u16::from(slot.number());
         let address = SocketAddr::from((Ipv4Addr::LOCALHOST, port));
         let listener = TcpListener::bind(rt, address)?;
-        Bound::new(rt, alloc, SlotListener::Port(listener), slot)
+        let listener = SlotListener::new(ListeningSocket::Port(listener));
+        Bound::new(rt, alloc, listener, slot)
     }
 }

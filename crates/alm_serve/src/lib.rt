@@ -56,11 +56,11 @@
 //! nobody while one takes too long. Requests that were sent before stay: they are done if the call comes back well.
 //!
 //! Checked by reading: that `read` and `write` of a `StreamWire` make the call which they note, and that accepting and closing a
-//! connection makes no such call.
+//! connection makes no such call. Also that a `SlotListener` counts only accepts that failed.
 //!
-//! Not covered: that a wake comes, that the server ever ends, and time. Nor that a port closes while a device call takes too
-//! long, and that a look is answered Stopped only once the run has stopped. There are no accounts: a client that reaches a port of
-//! loopback, or may open a socket, has the role of its slot.
+//! Not covered: that a wake comes, that the server ever ends, and time. Nor that a connection is closed only for a cause, and that a
+//! port ends only once its connections are over. There are no accounts: a client that reaches a port of loopback, or may open a
+//! socket, has the role of its slot.
 //!
 //! Proved:
 //! - over any wire a slot's service writes and sends what its session does in its turns, and nothing else
@@ -69,6 +69,8 @@
 //! - as long as no whole line has come nothing is sent and nothing written (by `laws::nothing_goes_out_unasked`)
 //! - a port is the source of its slot alone, whatever its clients do, and sends what its service does (by `SlotPort`,
 //!   `StreamWire`)
+//! - **in each turn a port serves whoever is there**, unless it ends or a device call takes too long. A connection gets a turn that
+//!   went or could do nothing, and of an ended one the receipts are received. Else nobody waits (by `SlotPort`)
 //! - a port and a bell for each slot asked for, in order, and nobody connected (by `open_ports`, `open_sockets`)
 //! - **of an open store and its ports: a run over it with these sources. All that a console sent and received was so in turns of
 //!   its port's session** (by `serve_store`)
@@ -96,6 +98,7 @@ mod first_line;
 mod found;
 pub mod laws;
 mod listen;
+mod listening_socket;
 mod opening;
 mod patience;
 mod plain_bytes;

@@ -1,7 +1,8 @@
 //! One slot's port.
 
-ghost use Rattle.std.specs.Prelude.{◌≡◌};
-ghost use Rattle.alm_serve.specs.Service.{by_wire, stage};
+ghost use Rattle.std.specs.Prelude.{◌≡◌, IsTrue};
+ghost use Rattle.alm_serve.specs.Service.{IsLate, by_wire, stage};
+ghost use Rattle.alm_serve.specs.StreamWires.{wire_counts};
 
 use crate::bound::Bound;
 use crate::call_watch::CallWatch;
@@ -33,7 +34,9 @@ const STREAM: Token = Token(1);
 const SLEEP: u64 = 1000;
 
 /// Whether a device call takes longer than it may.
-fn is_stuck<R: Clock>(watch: &mut Option<CallWatch<'_, R>>) -> bool {
+fn is_stuck<R: Clock>(watch: &mut Option<CallWatch<'_, R>>) -> bool
+    ensures { IsTrue result → IsLate watch.old watch.new }
+{
     match watch {
         Some(watch) => watch.is_over(),
         None => false,
@@ -46,6 +49,8 @@ fn find_ready(events: &Events, service: &mut SlotService<StreamWire<SlotStream>>
     ensures stage { stage service.new.connection ≡ stage service.old.connection }
     ensures traffic { by_wire (λ wire. wire.traffic) service.new.connection ≡
         by_wire (λ wire. wire.traffic) service.old.connection }
+    ensures counts { by_wire wire_counts service.new.connection ≡
+        by_wire wire_counts service.old.connection }
 {
     for event in events {
         let reads_on = event.is_read_closed() || event.is_error() || event.is_priority();
@@ -74,13 +79,16 @@ pub struct SlotPort<'r, R, T> {
 }
 
 impl<'r, R: Clock, T: Told + Drop> SlotPort<'r, R, T> {
-    ghost use Rattle.std.specs.Prelude.{◌≡◌, IfOk};
+    ghost use Rattle.std.specs.Prelude.{◌≡◌, ◌⊎◌, false, IfOk};
+    ghost use Rattle.alm_types.specs.Counts.{one_more};
     ghost use Rattle.alm_rings.specs.Ends.{SameConsole, sent_of};
     ghost use Rattle.alm_session.specs.Sides.{heard_by};
     ghost use Rattle.alm_session.specs.Turns.{between};
     ghost use Rattle.alm_serve.specs.declared.connection.Connection.TheVariants as connection;
-    ghost use Rattle.alm_serve.specs.Ports.{IsUnused, side_of, traffic_of};
-    ghost use Rattle.alm_serve.specs.Service.{Attends, IsFresh, stage, without_wire};
+    ghost use Rattle.alm_serve.specs.Ports.{HasServed, IsUnused, side_of, traffic_of};
+    ghost use Rattle.alm_serve.specs.Service.{Attends, IsFresh, IsLate, by_wire, stage, without_wire};
+    ghost use Rattle.alm_serve.specs.StreamWires.{wire_counts};
+    ghost use Rattle.alm_threads.specs.declared.go.Go.TheVariants as go;
 
     /// A port with nobody connected, whose listener is polled from now on.
     pub fn new(
@@ -122,6 +130,8 @@ impl<'r, R: Clock, T: Told + Drop> SlotPort<'r, R, T> {
             IsFresh self.new.service.session.intake self.new.service.session.waiting.items
             self.new.service.session.output.left }
         ensures traffic { traffic_of self.new ≡ traffic_of self.old }
+        ensures nobody { self.new.service.connection ≡ connection.Awaited →
+            self.new.listener.nobody ≡ one_more self.old.listener.nobody }
     {
         match self
             .listener
@@ -146,6 +156,7 @@ impl<'r, R: Clock, T: Told + Drop> SlotPort<'r, R, T> {
         ensures stage { stage self.new.service.connection ≡
             without_wire (stage self.old.service.connection) }
         ensures traffic { traffic_of self.new ≡ traffic_of self.old }
+        ensures watch { self.new.watch ≡ self.old.watch }
     {
         if !self.service.is_awaited() {
             if let Some(wire) = self.service.close() {
@@ -168,6 +179,11 @@ impl<'r, R: Clock, T: Told + Drop> SlotPort<'r, R, T> {
         ensures attends { Attends (between L.Look.looked L.Recall.recalled look.old look.new)
             (L.Look.base look.old)
             (stage self.old.service.connection) (stage self.new.service.connection)
+            (side_of self.old (L.Look.knows look.old) (sent_of console.old) (heard_by console.old))
+            (side_of self.new (L.Look.knows look.new) (sent_of console.new) (heard_by console.new)) }
+        ensures serves { IsLate self.old.watch self.new.watch ⊎
+            HasServed (between L.Look.looked L.Recall.recalled look.old look.new)
+            (L.Look.base look.old) self.old self.new console.old console.new
             (side_of self.old (L.Look.knows look.old) (sent_of console.old) (heard_by console.old))
             (side_of self.new (L.Look.knows look.new) (sent_of console.new) (heard_by console.new)) }
     {
@@ -197,6 +213,10 @@ impl<'r, R: Clock, T: Told + Drop> SlotPort<'r, R, T> {
         ensures session { self.new.service.session ≡ self.old.service.session }
         ensures stage { stage self.new.service.connection ≡ stage self.old.service.connection }
         ensures traffic { traffic_of self.new ≡ traffic_of self.old }
+        ensures counts { by_wire wire_counts self.new.service.connection ≡
+            by_wire wire_counts self.old.service.connection }
+        ensures nobody { self.new.listener.nobody ≡ self.old.listener.nobody }
+        ensures watch { self.new.watch ≡ self.old.watch }
     {
         if !self.bell.listens() {
             self.bell.listen();
@@ -223,6 +243,11 @@ impl<'r, R: Clock, T: Told + Drop> SlotPort<'r, R, T> {
             (stage self.old.service.connection) (stage self.new.service.connection)
             (side_of self.old (L.Look.knows look.old) (sent_of console.old) (heard_by console.old))
             (side_of self.new (L.Look.knows look.new) (sent_of console.new) (heard_by console.new)) }
+        ensures serves { (result ≡ go.End) ⊎ IsLate self.old.watch self.new.watch ⊎
+            HasServed (between L.Look.looked L.Recall.recalled look.old look.new)
+            (L.Look.base look.old) self.old self.new console.old console.new
+            (side_of self.old (L.Look.knows look.old) (sent_of console.old) (heard_by console.old))
+            (side_of self.new (L.Look.knows look.new) (sent_of console.new) (heard_by console.new)) }
     {
         if self.count.are_over() {
             return Go::End;
@@ -237,12 +262,14 @@ impl<'r, R: Clock, T: Told + Drop> SlotPort<'r, R, T> {
 }
 
 impl<R: Clock, T: Told + Drop, L: FreeLook<Told = T> + Recall> Source<T, L> for SlotPort<'_, R, T> {
-    ghost use Rattle.std.specs.Prelude.{◌≡◌, Some, map};
+    ghost use Rattle.std.specs.Prelude.{◌≡◌, ◌⊎◌, Some, map};
     ghost use Rattle.alm_rings.specs.Ends.{SameConsole, received_of, sent_of};
+    ghost use Rattle.alm_session.specs.Sides.{heard_by};
     ghost use Rattle.alm_session.specs.Turns.{between};
     ghost use Rattle.alm_threads.specs.Sources.{reported_of};
-    ghost use Rattle.alm_serve.specs.Ports.{side_of};
-    ghost use Rattle.alm_serve.specs.Service.{Attends, as_heard, stage};
+    ghost use Rattle.alm_threads.specs.declared.go.Go.TheVariants as go;
+    ghost use Rattle.alm_serve.specs.Ports.{HasServed, side_of};
+    ghost use Rattle.alm_serve.specs.Service.{Attends, IsLate, as_heard, stage};
 
     ghost slot = { λ port. Some port.slot };
 
@@ -261,6 +288,12 @@ impl<R: Clock, T: Told + Drop, L: FreeLook<Told = T> + Recall> Source<T, L> for 
             (stage self.old.service.connection) (stage self.new.service.connection)
             (side_of self.old (L.Look.knows look.old) (sent_of console.old) (map as_heard (map reported_of (received_of console.old))))
             (side_of self.new (L.Look.knows look.new) (sent_of console.new) (map as_heard (map reported_of (received_of console.new)))) }
+        // Unless it ends, or a device call takes too long, it has served whoever is there.
+        ensures serves { (result ≡ go.End) ⊎ IsLate self.old.watch self.new.watch ⊎
+            HasServed (between L.Look.looked L.Recall.recalled look.old look.new)
+            (L.Look.base look.old) self.old self.new console.old console.new
+            (side_of self.old (L.Look.knows look.old) (sent_of console.old) (heard_by console.old))
+            (side_of self.new (L.Look.knows look.new) (sent_of console.new) (heard_by console.new)) }
     {
         self.attend(console, look)
     }

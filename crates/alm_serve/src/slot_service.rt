@@ -138,6 +138,7 @@ impl<W: Wire + Drop> SlotService<W> {
 impl<S: Read + Write + Drop> SlotService<StreamWire<S>> {
     ghost use Rattle.std.specs.Prelude.{◌≡◌};
     ghost use Rattle.alm_serve.specs.Service.{by_wire, stage};
+    ghost use Rattle.alm_serve.specs.StreamWires.{wire_counts};
 
     /// A poll found the stream ready, as [`StreamWire::find_ready`] has it. Nothing is read or written.
     pub fn find_ready(&mut self, reads_on: bool)
@@ -147,6 +148,8 @@ impl<S: Read + Write + Drop> SlotService<StreamWire<S>> {
             by_wire (λ wire. wire.stream) self.old.connection }
         ensures traffic { by_wire (λ wire. wire.traffic) self.new.connection ≡
             by_wire (λ wire. wire.traffic) self.old.connection }
+        ensures counts { by_wire wire_counts self.new.connection ≡
+            by_wire wire_counts self.old.connection }
     {
         if let Connection::Open(wire) = &mut self.connection {
             wire.find_ready(reads_on);

@@ -3,6 +3,7 @@
 ghost use Rattle.std.specs.Prelude.{◌≡◌, IfOk, map};
 
 use crate::bound::Bound;
+use crate::listening_socket::ListeningSocket;
 use crate::port_fault::PortFault;
 use crate::slot_listener::SlotListener;
 use alm_types::Slot;
@@ -84,7 +85,12 @@ fn bind_one<R: Net + Files>(
         fs::remove_file(rt, path.as_str())?;
     }
     let listener = listen_at(rt, path.as_str())?;
-    Bound::new(rt, alloc, SlotListener::Socket(listener), slot)
+    Bound::new(
+        rt,
+        alloc,
+        SlotListener::new(ListeningSocket::Folder(listener)),
+        slot,
+    )
 }
 
 /// Refuses a folder in which a slot can't have its socket.

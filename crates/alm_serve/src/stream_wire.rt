@@ -40,6 +40,7 @@ pub struct StreamWire<S> {
 
 impl<S: Read + Write + Drop> StreamWire<S> {
     ghost use Rattle.std.specs.Prelude.{◌≡◌, []};
+    ghost use Rattle.alm_serve.specs.StreamWires.{wire_counts};
 
     /// A wire over a stream that never waits, with the bytes of the slot's connections before it.
     pub fn new(stream: S, traffic: Traffic) -> Self
@@ -67,6 +68,7 @@ impl<S: Read + Write + Drop> StreamWire<S> {
         ensures traffic { self.new.traffic ≡ self.old.traffic }
         ensures before { self.new.before ≡ self.old.before }
         ensures here { self.new.here ≡ self.old.here }
+        ensures counts { wire_counts self.new ≡ wire_counts self.old }
     {
         self.is_dry = false;
         self.reads_on = self.reads_on || reads_on;
