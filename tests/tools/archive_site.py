@@ -4,7 +4,7 @@ import random
 import re
 import subprocess
 import sys
-from archives import SEGMENT, archive_once, psql, rows_of, run_tool
+from archives import SEGMENT, archive_once, archive_stopped, psql, rows_of, run_tool
 from lib.drawn_plants import Hand, draw_plant, new_device
 from lib.places import DOCS
 from lib.program import check
@@ -84,7 +84,13 @@ class Site:
         self.server = None
 
     def archive(self) -> str:
-        return archive_once(self.device, self.database, self.port, python=self.python)
+        """Archives what the server shows; what that says."""
+        return archive_once(self.database, self.port, python=self.python)
+
+    def archive_stopped(self) -> str:
+        """Stops the server, and archives its device; what that says."""
+        self.stop()
+        return archive_stopped(self.device, self.database, python=self.python)
 
     def tool(self, name: str, *words: object) -> subprocess.CompletedProcess:
         return run_tool(name, *words, python=self.python)

@@ -14,7 +14,7 @@ from typing import Callable, Iterator
 from lib.drawn_plants import CONSOLE, Hand, module
 from lib.places import AT_TOOLS, EXAMPLES
 from lib.program import check
-from slow_count import Shown, change_rows, flood_rows, replay
+from slow_count import Shown, change_rows, replay
 from alarms.table_file import Table
 from lib.tools import Yard, await_true, started
 
@@ -48,7 +48,7 @@ os.setgroups([])
 os.setgid(int(group))
 os.setuid(int(user))
 with Store.open(database) as store:
-    print(len(read_life(store, "readers").counted()))
+    print(len(read_life(store, "plant").counted()))
 """
 
 
@@ -56,11 +56,11 @@ FLOODS = "SELECT number, moment, area, flooded, annunciations FROM flood WHERE p
 
 
 def archiver(
-    device: str, database: str, port: int, *words: object, python: str = sys.executable, **streams: object
+    database: str, port: int, *words: object, name: str = "plant", python: str = sys.executable, **streams: object
 ) -> subprocess.Popen:
     """An archiver that runs on."""
     pipes = dict.fromkeys(("stdout", "stderr"), subprocess.PIPE)
-    command = module("archive", "run", device, database, "--port", port, *words, python=python)
+    command = module("archive", "run", database, "--port", port, "--name", name, *words, python=python)
     return started(subprocess.Popen(command, env=AT_TOOLS, text=True, **{**pipes, **streams}))
 
 
@@ -72,9 +72,19 @@ def run_tool(
     return subprocess.run(command, env=AT_TOOLS, capture_output=True, text=True, timeout=300)
 
 
-def archive_once(device: str, database: str, port: int, *words: object, python: str = sys.executable) -> str:
-    run = run_tool("archive", "run", device, database, "--port", port, "--once", *words, python=python)
+def archive_once(database: str, port: int, name: str = "plant", python: str = sys.executable) -> str:
+    """Archives what a server shows by now; what that says."""
+    run = run_tool("archive", "run", database, "--port", port, "--name", name, "--once", python=python)
     check(run.returncode == 0, "alm_archive run:", run.stdout, run.stderr)
+    return run.stderr
+
+
+def archive_stopped(
+    device: str, database: str, *words: object, name: str = "plant", python: str = sys.executable
+) -> str:
+    """Archives a device that isn't served, to its end; what that says."""
+    run = run_tool("archive", "run", device, database, "--stopped", "--name", name, *words, python=python)
+    check(run.returncode == 0, "alm_archive run .. --stopped:", run.stdout, run.stderr)
     return run.stderr
 
 
@@ -88,6 +98,14 @@ def last_archived(database: str) -> int:
     """The number of the last action in an archive, which may not be made yet."""
     try:
         return rows_of(database, "SELECT MAX(number) FROM action")[0][0]
+    except sqlite3.OperationalError:
+        return 0
+
+
+def plants_of(database: str) -> int:
+    """How many plants an archive has, which may not be made yet."""
+    try:
+        return rows_of(database, "SELECT COUNT(*) FROM plant")[0][0]
     except sqlite3.OperationalError:
         return 0
 
@@ -136,7 +154,8 @@ def judge(yard: Yard, table: Table, select: Callable[[str], list[tuple]], hand: 
         len(there),
         len(wanted),
     )
-    check([row for row in select(FLOODS) if row[0]] == flood_rows(shown), "other floods")
+    flooded = {area: flooded for _, _, area, flooded, _ in select(FLOODS)}
+    check(flooded == {area: one[1] for area, one in enumerate(shown[-1].floods)}, "other floods at the end", flooded)
     check(
         any(row[8] and request.startswith("CLOCK") for row, request in ((row, requests[row[0] - 1]) for row in wanted)),
         "no CLOCK annunciated anything",

@@ -17,7 +17,7 @@ from check_journal import SLOW, held_actions, syncs
 from lib.program import check
 from lib.server import Server
 from slow_count import change_rows, replay
-from alarms.table_file import Alarm, Table
+from alarms.table_file import LEAST_SEGMENT, Alarm, Table
 from lib.tools import Yard, await_said, await_true, tool
 from archives import (
     ACTIONS,
@@ -26,6 +26,7 @@ from archives import (
     SEGMENT,
     SYNC,
     archive_once,
+    archive_stopped,
     archiver,
     judge,
     postgresql,
@@ -40,7 +41,8 @@ from archives import judge_found
 
 
 class Killed:
-    """A server and an archiver that are killed at drawn moments while requests are asked, and started again."""
+    """A server and an archiver that are killed at drawn moments while requests are asked, and started again. What a
+    server leaves on its device is archived before the next one begins."""
 
     def __init__(self, yard: Yard, database: str, kills: int, python: str = sys.executable):
         self.yard, self.database, self.kills, self.python = yard, database, kills, python
@@ -50,19 +52,19 @@ class Killed:
         self.hand = Hand(self.dice, self.table)
         self.server = yard.serve(self.device)
         self.hand.connect(self.server)
+        archive_once(database, self.server.port, python=python)
         self.archiver = self.start()
+        # who has it starts and ends the archiver
+        self.starting = threading.Lock()
         self.done = threading.Event()
         self.wrong: list[str] = []
 
     def start(self) -> subprocess.Popen:
-        return archiver(
-            self.device,
-            self.database,
-            self.server.port,
-            python=self.python,
-            stdout=subprocess.DEVNULL,
-            stderr=subprocess.PIPE,
-        )
+        return archiver(self.database, self.server.port, python=self.python, stdout=subprocess.DEVNULL)
+
+    def stop(self) -> None:
+        self.archiver.kill()
+        self.archiver.communicate()
 
     def run(self) -> None:
         """Kills both so many times."""
@@ -85,18 +87,22 @@ class Killed:
     def restart(self) -> None:
         self.hand.leave()
         self.server.end()
-        self.server = self.yard.serve(self.device, self.server.port)
+        with self.starting:
+            self.stop()
+            archive_stopped(self.device, self.database, "--existing", python=self.python)
+            self.server = self.yard.serve(self.device, self.server.port)
+            self.archiver = self.start()
         self.hand.connect(self.server)
 
     def kill_archivers(self) -> None:
         for _ in range(self.kills):
             time.sleep(0.1 + self.dice.random() * 0.6)
-            if self.archiver.poll() is not None:
-                self.wrong.append(f"an archiver ended by itself: {self.archiver.communicate()}")
-                break
-            self.archiver.kill()
-            self.archiver.communicate()
-            self.archiver = self.start()
+            with self.starting:
+                if self.archiver.poll() is not None:
+                    self.wrong.append(f"an archiver ended by itself: {self.archiver.communicate()}")
+                    break
+                self.stop()
+                self.archiver = self.start()
         self.done.set()
 
     def finish(self) -> None:
@@ -107,9 +113,8 @@ class Killed:
         except Lost:
             self.restart()
             self.total = self.hand.count()
-        self.archiver.kill()
-        self.archiver.communicate()
-        archive_once(self.device, self.database, self.server.port, python=self.python)
+        self.stop()
+        archive_once(self.database, self.server.port, python=self.python)
         self.hand.leave()
         self.server.end()
 
@@ -141,13 +146,13 @@ def kills_postgresql(yard: Yard, count: int) -> str:
         listed = run_tool("archive", "list", place, python=python)
         check(
             listed.returncode == 0
-            and f"killed plant 1: {killed.total} actions" in listed.stdout
+            and f"plant plant 1: {killed.total} actions" in listed.stdout
             and "gap" not in listed.stdout,
             listed.stdout,
             listed.stderr,
         )
         pruned = run_tool(
-            "archive", "prune", place, "--name", "killed", "--before", killed.hand.moment // 2, python=python
+            "archive", "prune", place, "--name", "plant", "--before", killed.hand.moment // 2, python=python
         )
         check(
             pruned.returncode == 0 and psql(place, "SELECT why FROM gap") == [("pruned",)], pruned.stdout, pruned.stderr
@@ -155,39 +160,6 @@ def kills_postgresql(yard: Yard, count: int) -> str:
     gone = run_tool("archive", "list", place, python=python)
     check(gone.returncode == 1 and gone.stderr.count("\n") == 1 and "Traceback" not in gone.stderr, gone.stderr)
     return f"{killed.total} actions in PostgreSQL over {number} kills of each"
-
-
-def pauses(yard: Yard, count: int) -> str:
-    """What a device still holds is read after a pause; what is gone is a gap, and behind it stands what the program
-    shows."""
-    dice, gaps = random.Random(31), 0
-    table = draw_plant(dice, 10, 2)
-    device, database, hand = new_device(yard, "paused", table), yard.path("paused.sqlite"), Hand(dice, table)
-    server = yard.serve(device)
-    hand.connect(server)
-    for turn in range(max(4, count // 1000)):
-        hand.ask(dice.choice([20, 150]))
-        archive_once(device, database, server.port)
-        is_whole = not rows_of(database, "SELECT * FROM gap WHERE first > ?", hand.count() - 200)
-        check(is_whole, "a gap where the device had all of it")
-        hand.ask(1600 if turn % 2 else 60)
-        said = archive_once(device, database, server.port)
-        check(("no longer in the file" in said) == bool(turn % 2), "it said", said)
-    hand.leave()
-    server.end()
-    shown = replay(yard, table, [hand.accepted[one] for one in sorted(hand.accepted)])
-    gaps = rows_of(database, "SELECT first, last, began, ended FROM gap ORDER BY first")
-    missing = {number for first, last, _, _ in gaps for number in range(first, last + 1)}
-    numbers = [row[0] for row in rows_of(database, ACTIONS, 1)]
-    check(sorted([*numbers, *missing]) == list(range(1, len(shown))), "actions and gaps aren't each number once")
-    check(
-        rows_of(database, CHANGES, 1) == [row for row in change_rows(shown, table) if row[0] not in missing],
-        "other changes",
-    )
-    for first, last, began, ended in gaps:
-        check((began, ended) == (shown[first - 1].moment, shown[last].moment), "the gap's moments are", began, ended)
-        judge_found(database, table, shown, last)
-    return f"{len(gaps)} gaps of {len(missing)} actions, {len(numbers)} archived"
 
 
 def not_ahead(yard: Yard, _count: int) -> str:
@@ -200,7 +172,7 @@ def not_ahead(yard: Yard, _count: int) -> str:
         device, loaded={"LD_PRELOAD": library, "SYNC_US": str(int(SYNC * 10**6)), "SYNC_COUNT": yard.path("syncs")}
     )
     with Client.connect(server.port, FEED, patience=60) as feed:
-        running = archiver(device, database, server.port)
+        running = archiver(database, server.port)
         await_said(running, "a new archive\n")
         needed, early = syncs(yard) + 2, []
         feed.send("1 VAL 0 800\n")
@@ -232,10 +204,10 @@ def begun_early(yard: Yard, device: str, feed: Client, server: Server) -> bool:
     needed = syncs(yard) + 2
     feed.send("2 VAL 0 700\n")
     await_true("the action in the file", lambda: held_actions(device) == 2)
-    archive_once(device, yard.path("early.sqlite"), server.port)
+    archive_once(yard.path("early.sqlite"), server.port)
     was_early = syncs(yard) < needed
     check(
-        not was_early or rows_of(yard.path("early.sqlite"), "SELECT COUNT(*) FROM action") == [(1,)],
+        not was_early or rows_of(yard.path("early.sqlite"), "SELECT begins FROM plant") == [(1,)],
         "an archive that begins has an action before its reply",
     )
     return was_early
@@ -244,9 +216,9 @@ def begun_early(yard: Yard, device: str, feed: Client, server: Server) -> bool:
 class Course:
     """A device of a name, served again and again; what each of its plants was asked."""
 
-    def __init__(self, yard: Yard, seed: int):
+    def __init__(self, yard: Yard, seed: int, segment: int = SEGMENT):
         self.yard, self.dice = yard, random.Random(seed)
-        self.table = draw_plant(self.dice, 8, 2, SEGMENT)
+        self.table = draw_plant(self.dice, 8, 2, segment)
         self.device, self.database = new_device(yard, "course", self.table), yard.path("course.sqlite")
         self.port, self.moment = 0, 1_790_000_000
 
@@ -263,10 +235,9 @@ class Course:
         return hand.accepted
 
     def archive(self) -> str:
-        """Archives, and stops the server."""
-        said = archive_once(self.device, self.database, self.port)
+        """Stops the server, and archives its device; what that says."""
         self.server.end()
-        return said
+        return archive_stopped(self.device, self.database)
 
     def put(self, path: str) -> None:
         """Another file in the place of the device."""
@@ -274,6 +245,34 @@ class Course:
 
     def copy(self, name: str) -> str:
         return shutil.copyfile(self.device, self.yard.path(name))
+
+
+def pauses(yard: Yard, count: int) -> str:
+    """What a stopped device still holds is archived behind a pause; what is gone is a gap, and behind it stands what
+    the program shows."""
+    course, accepted = Course(yard, 31, LEAST_SEGMENT), dict[int, str]()
+    for turn in range(max(4, count // 1000)):
+        accepted = course.ask(course.dice.choice([20, 150]), accepted)
+        course.archive()
+        is_whole = not rows_of(course.database, "SELECT * FROM gap WHERE first > ?", len(accepted) - 200)
+        check(is_whole, "a gap where the device had all of it")
+        accepted = course.ask(1600 if turn % 2 else 60, accepted)
+        said = course.archive()
+        check(("no longer in the file" in said) == bool(turn % 2), "it said", said)
+    shown = replay(yard, course.table, [accepted[one] for one in sorted(accepted)])
+    gaps = rows_of(course.database, "SELECT first, last, began, ended FROM gap ORDER BY first")
+    missing = {number for first, last, _, _ in gaps for number in range(first, last + 1)}
+    numbers = [row[0] for row in rows_of(course.database, ACTIONS, 1)]
+    check(sorted([*numbers, *missing]) == list(range(1, len(shown))), "actions and gaps aren't each number once")
+    check(
+        rows_of(course.database, CHANGES, 1)
+        == [row for row in change_rows(shown, course.table) if row[0] not in missing],
+        "other changes",
+    )
+    for first, last, began, ended in gaps:
+        check((began, ended) == (shown[first - 1].moment, shown[last].moment), "the gap's moments are", began, ended)
+        judge_found(course.database, course.table, shown, last)
+    return f"{len(gaps)} gaps of {len(missing)} actions, {len(numbers)} archived"
 
 
 def plants(yard: Yard, _count: int) -> str:
@@ -291,14 +290,14 @@ def plants(yard: Yard, _count: int) -> str:
     course.put(backup)
     second = course.ask(40, after_backup)
     said = course.archive()
-    check("plant 2" in said and "the server has" in said, "of an older copy it says", said)
+    check("plant 2" in said and "its actions aren't those" in said, "of an older copy it says", said)
     backup, after_backup = course.copy("backup"), dict(second)
     second = course.ask(30, second)
     course.archive()
     course.put(backup)
     third = course.ask(300, after_backup)
     said = course.archive()
-    check("plant 3" in said and "its actions aren't those" in said, said)
+    check("plant 3" in said and "its actions aren't those" in said, "of a copy with more actions it says", said)
     numbered = {1: first, 2: second, 3: third}
     for plant, accepted in numbered.items():
         numbers = {alarm.tag: number for number, alarm in enumerate(course.table.alarms)}
@@ -315,13 +314,7 @@ def changed_table(yard: Yard, course: Course) -> None:
     """An archiver that runs on while the table is changed goes on with another plant, and a report counts what was
     brought once."""
     server = yard.serve(course.device, course.port)
-    running = archiver(course.device, course.database, course.port)
-    await_true(
-        "the archiver",
-        lambda: running.poll() is None
-        and server.process.poll() is None
-        and Client.connect(course.port, 1).close() is None,
-    )
+    running = archiver(course.database, course.port)
     with Client.connect(course.port, CLOCK) as clock, Client.connect(course.port, FEED) as feed:
         clock.clock(course.moment + 10_000)
         for number, alarm in enumerate(course.table.alarms):
@@ -342,6 +335,7 @@ def changed_table(yard: Yard, course: Course) -> None:
     yard.run("desk", fresh, lines=brought.stdout)
     course.put(fresh)
     server = yard.serve(course.device, course.port)
+    await_true("the plant", lambda: rows_of(course.database, "SELECT MAX(plant) FROM plant") == [(4,)])
     with Client.connect(course.port, CLOCK) as clock, Client.connect(course.port, FEED) as feed:
         clock.clock(course.moment + 10_050)
         last = feed.value(len(course.table.alarms), 7)

@@ -23,39 +23,32 @@ from archives import (
     PLANT,
     SEGMENT,
     archive_once,
+    archive_stopped,
     archiver,
     last_archived,
     one_line,
+    plants_of,
     rows_of,
     run_tool,
 )
 
 
 def ends(yard: Yard, _count: int) -> str:
-    """Each tool ends by one line and a status: Ctrl-C, a full disk, another device, wrong words, no server, no archive,
-    no library."""
+    """Each tool ends by one line and a status: Ctrl-C, a full disk, wrong words, no server, no archive, no library."""
     device, database = yard.format("ends.device", PLANT), yard.path("ends.sqlite")
     server = yard.serve(device)
     with Client.connect(server.port, FEED) as feed, Client.connect(server.port, CLOCK) as clock:
         for moment in range(1000, 3000, 10):
             clock.clock(moment)
             feed.value(0, 800 if moment % 20 else 700) if moment > 1000 else None
-    archive_once(device, database, server.port)
-    running = archiver(device, yard.path("second.sqlite"), server.port)
+    running = archiver(yard.path("second.sqlite"), server.port)
     await_said(running, "a new archive\n")
     running.send_signal(signal.SIGINT)
     said = running.communicate(timeout=60)[1]
     check(running.returncode == 130 and "Traceback" not in said, "Ctrl-C:", running.returncode, said)
-    full_disk(yard, device, server.port)
-    other = yard.format("other.device", PLANT)
-    yard.run("desk", other, lines="".join(f"17 {moment} CLOCK {moment}\n" for moment in range(1, 41)))
-    one_line(
-        run_tool("archive", "run", other, yard.path("other.sqlite"), "--port", server.port, "--once"),
-        1,
-        "is it the server's device?",
-        "another device",
-    )
     server.end()
+    archive_stopped(device, database, name="ends")
+    full_disk(yard, device)
     wrong_words(yard, device, database, server.port)
     without_libraries(yard, database)
     pages_and_full_output(device, database)
@@ -67,12 +60,15 @@ def wrong_words(yard: Yard, device: str, database: str, port: int) -> None:
     text, empty = yard.write("text", "no archive " * 100), yard.path("empty.sqlite")
     with contextlib.closing(sqlite3.connect(empty)) as connection:
         connection.execute("CREATE TABLE one (two)")
-    run, prune, there = ("archive", "run", device), ("archive", "prune", database), ("reports", database)
+    run, prune, there = ("archive", "run"), ("archive", "prune", database), ("reports", database)
     for status, said, *words in (
         (2, "required", "archive"),
         (2, "invalid choice", "archive", "walk"),
-        (2, "required", *run),
+        (2, "required", *run, database),
         (2, "isn't a port", *run, database, "--port", 1),
+        (2, "alm_archive run DATABASE --port P --name PLANT; ", *run, device, database, "--port", port),
+        (2, "alm_archive run DATABASE --port P --name PLANT; ", *run, device, database, "--sockets", yard.folder),
+        (2, "by --stopped, once the server has ended", *run, device, database, "--port", port, "--once"),
         (2, "is no moment", *prune, "--name", "ends", "--before", "yesterday"),
         (2, "unrecognized", *there, "--walk"),
         (2, "is no moment", *there, "--from", "2026-13-01"),
@@ -86,6 +82,7 @@ def wrong_words(yard: Yard, device: str, database: str, port: int) -> None:
         (1, "nothing of ends in that span", *there, "--from", 9000),
         (1, "no area 7", *there, "--area", 7),
         (1, "unable to open", *run, "/", "--port", port, "--once"),
+        (1, "unable to open", *run, device, "/", "--stopped"),
     ):
         one_line(run_tool(*words), status, said, words)
 
@@ -139,7 +136,7 @@ def pages_and_full_output(device: str, database: str) -> None:
             )
 
 
-def full_disk(yard: Yard, device: str, port: int) -> None:
+def full_disk(yard: Yard, device: str) -> None:
     """On a full disk the archiver ends, and goes on where it was once there is room; a report says so too."""
     folder = yard.path("small")
     os.mkdir(folder)
@@ -151,14 +148,14 @@ def full_disk(yard: Yard, device: str, port: int) -> None:
     database = os.path.join(folder, "full.sqlite")
     limit = () if small else ("prlimit", "--fsize=24000")
     try:
-        run = run_tool("archive", "run", device, database, "--port", port, "--once", before=limit)
+        run = run_tool("archive", "run", device, database, "--stopped", before=limit)
         check(run.returncode == 1 and "Traceback" not in run.stderr, "on a full disk:", run.returncode, run.stderr)
         check(re.search(r"disk is full|disk I/O error|File too large", run.stderr.splitlines()[-1]), run.stderr)
         if small:
             run = run_tool("reports", yard.path("ends.sqlite"), "--csv", os.path.join(folder, "csv"))
             one_line(run, 1, "No space left", "reports on a full disk")
             subprocess.run(["mount", "-o", "remount,size=4m", folder], check=True)
-        archive_once(device, database, port)
+        archive_stopped(device, database, name="full")
         check(
             rows_of(database, "SELECT number, moment, word FROM action")
             == rows_of(yard.path("ends.sqlite"), "SELECT number, moment, word FROM action"),
@@ -187,7 +184,10 @@ def pruned(yard: Yard, count: int) -> str:
     hand.ask_at(CONSOLE, ["ACK 0", "OOS 1 ON", f"SHELVE 2 {table.alarms[2].max_shelve}"])
     while len(hand.accepted) < min(1200, count):
         hand.ask(40, 3)
-    archive_once(device, database, server.port)
+    hand.leave()
+    server.end()
+    archive_stopped(device, database)
+    server = yard.serve(device, server.port)
     moments = [row[1] for row in rows_of(database, ACTIONS, 1) if row[1]]
     begin, before = moments[len(moments) // 2], moments[len(moments) // 3]
     reports = []
@@ -197,13 +197,14 @@ def pruned(yard: Yard, count: int) -> str:
         check(run.returncode == 0, run.stderr)
         reports.append({name: pathlib.Path(folder, f"{name}.csv").read_text(encoding="utf-8") for name in UNCHANGED})
         if turn == 0:
-            run = run_tool("archive", "prune", database, "--name", "pruned", "--before", before)
+            run = run_tool("archive", "prune", database, "--name", "plant", "--before", before)
             check(run.returncode == 0, run.stderr)
     check(reports[0] == reports[1], "another report behind a pruning")
     kept = [row for row in moments if row >= before]
     check([row[1] for row in rows_of(database, ACTIONS, 1)] == kept, "others were pruned")
+    hand.connect(server)
     hand.ask(100, 3)
-    check(archive_once(device, database, server.port) == "", "the archive doesn't go on")
+    check(archive_once(database, server.port) == "", "the archive doesn't go on")
     check(
         [row[0] for row in rows_of(database, ACTIONS, 1)]
         == list(range(len(hand.accepted) - len(rows_of(database, ACTIONS, 1)) + 1, len(hand.accepted) + 1)),
@@ -211,7 +212,7 @@ def pruned(yard: Yard, count: int) -> str:
     )
     hand.leave()
     server.end()
-    run = run_tool("archive", "run", device, database, "--port", server.port, "--seconds", 1.5)
+    run = run_tool("archive", "run", database, "--port", server.port, "--seconds", 1.5)
     check(
         run.returncode == 0 and run.stderr.count("\n") == 1 and "trying again" in run.stderr,
         "without a server:",
@@ -235,7 +236,8 @@ def readers(yard: Yard, _count: int) -> str:
     counts = []
     with Client.connect(server.port, FEED) as feed, Client.connect(server.port, CLOCK) as clock:
         for turn, ending in enumerate((None, signal.SIGKILL, signal.SIGINT)):
-            running = archiver(device, database, server.port, stdout=subprocess.DEVNULL, stderr=subprocess.DEVNULL)
+            running = archiver(database, server.port, stdout=subprocess.DEVNULL, stderr=subprocess.DEVNULL)
+            await_true("an archive", lambda: plants_of(database) == 1)
             clock.clock(1000 + 10 * turn)
             last = [feed.value(0, 800), feed.value(0, 700)][1]
             await_true("the last action", lambda: last_archived(database) == last)

@@ -43,19 +43,16 @@ FIELDS = {
     # of a shelved alarm
     "deadline": ("alarm.deadline = 9", "9", "1060"),
 }
-# The slot of an archiver with the device, and of one without.
-SLOTS = {"device": 13, "lines": 12}
 COMPARED, DENIED = "alarms_archive_rows_compared_total", "alarms_archive_rows_denied"
 
 
 class Watched:
-    """An archiver with a page of metrics, by the device or by lines, maybe behind a change of its code."""
+    """An archiver with a page of metrics, maybe behind a change of its code."""
 
-    def __init__(self, way: str, device: str, port: int, wrong: str = "pass", every: float = 0.0):
-        self.database = f"{device}.{way}"
-        words = [*([device] if way == "device" else []), self.database, "--port", port, "--slot", SLOTS[way]]
-        code = FALSIFIED.format(wrong=wrong, every=every)
-        command = [sys.executable, "-c", code, "run", *map(str, words), "--metrics", "0", "--name", "plant"]
+    def __init__(self, device: str, port: int, wrong: str = "pass", every: float = 0.0):
+        self.database = f"{device}.sqlite"
+        words = [self.database, "--port", str(port), "--metrics", "0", "--name", "plant"]
+        command = [sys.executable, "-c", FALSIFIED.format(wrong=wrong, every=every), "run", *words]
         pipes = dict.fromkeys(("stdout", "stderr"), subprocess.PIPE)
         self.process = started(subprocess.Popen(command, env=AT_TOOLS, text=True, **pipes))
         self.said = await_said(self.process, "a new archive\n")
@@ -83,32 +80,30 @@ def reported(yard: Yard, database: str) -> list[list[str]]:
     return rows
 
 
-def wrong_field(yard: Yard, name: str, way: str) -> None:
+def wrong_field(yard: Yard, name: str) -> None:
     """A wrong field is told in the log, on the page of metrics and in a report."""
     change, here, there = FIELDS[name]
-    device = yard.format(f"{name}.{way}", PLANT)
+    device = yard.format(name, PLANT)
     server = yard.serve(device)
     act(server, (CLOCK, "CLOCK 1000"))
-    running = Watched(way, device, server.port, change)
+    running = Watched(device, server.port, change)
     act(server, (FEED, "VAL 0 800"), (3, "SHELVE 0 60" if name == "deadline" else "PRIO 1 3"))
     said = await_said(running.process, f"its {name} is {here} here, and {there} there")
     check("the server denies 1 of the rows of plant, at action 3. TI-101: " in said, said)
     running.await_value(DENIED, 1)
-    check(running.value(DENIED) == 1, way, name, "the page counts", running.value(DENIED))
+    check(running.value(DENIED) == 1, name, "the page counts", running.value(DENIED))
     await_true("what is kept", lambda: rows_of(running.database, "SELECT COUNT(*) FROM denied")[0][0] > 0)
     stop(running.process)
     rows = reported(yard, running.database)
-    check(["1000", "TI-101", name, here, there] in rows, way, "reports", rows)
-    check(name == "flags" or len(rows) == 1, way, "reports more than the", name, rows)
+    check(["1000", "TI-101", name, here, there] in rows, name, "is reported as", rows)
+    check(name == "flags" or len(rows) == 1, "more than the", name, "is reported", rows)
     server.end()
 
 
 def archived_rows(yard: Yard, _count: int) -> str:
-    """Each field of a row that the archive's model has otherwise than the server is told, by both kinds of
-    archivers."""
+    """Each field of a row that the archive's model has otherwise than the server is told."""
     for name in FIELDS:
-        for way in SLOTS:
-            wrong_field(yard, name, way)
+        wrong_field(yard, name)
     return f"{len(FIELDS)} wrong fields of an archive's model, each told"
 
 
@@ -121,15 +116,14 @@ def true_rows(yard: Yard, count: int) -> str:
     server, hand = yard.serve(device), Hand(dice, table)
     hand.connect(server)
     hand.ask(100)
-    running = [Watched(way, device, server.port) for way in SLOTS]
+    running = Watched(device, server.port)
     for _ in range(max(20, count // 40)):
         hand.ask(dice.choice([1, 5, 40]))
-    for one in running:
-        one.await_value(COMPARED, 200)
-        lint(one.address)
-        check(one.value(DENIED) == 0, "of true rows it denies", one.value(DENIED))
-        check(reported(yard, one.database) == [], "it reports", reported(yard, one.database))
-        stop(one.process)
+    running.await_value(COMPARED, 200)
+    lint(running.address)
+    check(running.value(DENIED) == 0, "of true rows it denies", running.value(DENIED))
+    check(reported(yard, running.database) == [], "it reports", reported(yard, running.database))
+    stop(running.process)
     hand.leave()
     server.end()
     return f"{len(hand.accepted)} actions, and no true row denied"
@@ -140,7 +134,7 @@ def rounds(yard: Yard, _count: int) -> str:
     device = yard.format("rounds.device", PLANT)
     server = yard.serve(device)
     act(server, (CLOCK, "CLOCK 1000"))
-    running = Watched("lines", device, server.port, every=3600.0)
+    running = Watched(device, server.port, every=3600.0)
     running.await_value(COMPARED, 4)
     act(server, (FEED, "VAL 0 800"))
     running.await_value("alarms_archive_last_action", 2)

@@ -3,10 +3,10 @@ import csv
 import os
 
 from alarms.client import CLOCK, FEED
-from archives import PLANT, archive_once, archiver, last_archived, one_line, rows_of, run_tool
+from archives import PLANT, archive_once, archive_stopped, archiver, last_archived, one_line, rows_of, run_tool
 from check_since import act
 from lib.program import check
-from lib.tools import Yard, await_true
+from lib.tools import Yard, await_said, await_true
 
 SLOTS = "SELECT number, word, slot FROM action ORDER BY number"
 
@@ -16,8 +16,9 @@ def askers(yard: Yard, _count: int) -> str:
     an earlier server took it isn't known."""
     device, database = yard.format("askers.device", PLANT), yard.path("askers.sqlite")
     server = yard.serve(device)
+    running = archiver(database, server.port)
+    await_said(running, "a new archive\n")
     act(server, (CLOCK, "CLOCK 1000"), (FEED, "VAL 0 800"), (3, "ACK 0 1"), (FEED, "DESIGN 1 ON"))
-    running = archiver(device, database, server.port)
     await_true("the first actions", lambda: last_archived(database) == 4)
     act(server, (15, "SHELVE 0 60"), (0, "UNSHELVE 0"), (3, "PRIO 3 1"))
     await_true("what is done meanwhile", lambda: last_archived(database) == 7)
@@ -25,9 +26,10 @@ def askers(yard: Yard, _count: int) -> str:
     running.communicate()
     act(server, (5, "SETP 3 7"), (5, "OOS 3 ON"))
     server.end()
+    archive_stopped(device, database)
     server = yard.serve(device)
     act(server, (FEED, "VAL 3 60"), (6, "OOS 3 OFF"))
-    archive_once(device, database, server.port)
+    archive_once(database, server.port)
     server.end()
     wanted = [(1, "CLOCK", 17), (2, "VAL", 16), (3, "ACK", 3), (4, "DESIGN", 16), (5, "SHELVE", 15), (6, "UNSHELVE", 0)]
     wanted += [(7, "PRIO", 3), (8, "SETP", None), (9, "OOS", None), (10, "VAL", 16), (11, "OOS", 6)]
@@ -68,14 +70,15 @@ def stopped(yard: Yard, _count: int) -> str:
     device, database = yard.format("stopped.device", PLANT), yard.path("stopped.sqlite")
     words = ("archive", "run", device, database, "--stopped", "--existing", "--name", "plant")
     server = yard.serve(device)
-    act(server, (CLOCK, "CLOCK 1000"), (FEED, "VAL 0 800"), (3, "ACK 0"))
     run = run_tool(*words)
     check(
         (run.returncode, run.stdout, run.stderr) == (0, "", "") and not os.path.exists(database),
         "without an archive",
         run,
     )
-    archive_once(device, database, server.port, "--name", "plant")
+    archive_once(database, server.port)
+    act(server, (CLOCK, "CLOCK 1000"), (FEED, "VAL 0 800"), (3, "ACK 0"))
+    archive_once(database, server.port)
     act(server, (FEED, "VAL 0 0"), (FEED, "VAL 0 800"), (3, "ACK 0"))
     run = run_tool(*words)
     one_line(run, 1, "is served, or in use", "of a served device")
@@ -86,7 +89,7 @@ def stopped(yard: Yard, _count: int) -> str:
     check(rows_of(database, SLOTS) == wanted, "stopped has", rows_of(database, SLOTS))
     server = yard.serve(device)
     act(server, (4, "PRIO 0 2"))
-    archive_once(device, database, server.port, "--name", "plant")
+    archive_once(database, server.port)
     check(rows_of(database, SLOTS) == [*wanted, (7, "PRIO", 4)], "behind that it has", rows_of(database, SLOTS))
     check(rows_of(database, "SELECT * FROM gap") == [], "it has gaps")
     server.end()

@@ -66,7 +66,6 @@ def changed_plants(site: Site) -> int:
     for _ in range(6):
         site.ask(60)
     bring_up(site)
-    site.archive()
     count = annunciations(site.yard, site.table, site.accepted)
     site.stop()
     write_new_table(site)
@@ -82,8 +81,7 @@ def changed_plants(site: Site) -> int:
     with Client.connect(site.port, CLOCK) as clock, Client.connect(site.port, FEED) as feed:
         clock.clock(site.moment + 100)
         feed.value(len(site.table.alarms), 7)
-    site.archive()
-    site.stop()
+    site.archive_stopped()
     check(
         site.rows("SELECT ends FROM plant WHERE plant = 1") == [(max(site.accepted),)]
         and not site.rows(f"SELECT 1 FROM gap WHERE why = '{OPEN.replace(chr(39), chr(39) * 2)}'"),

@@ -9,23 +9,28 @@ import subprocess
 
 from alarms.client import CLOCK, FEED, Client
 from alarms.table_file import Table
-from archives import ACTIONS, CHANGES, PLANT, last_archived, request_of, rows_of, run_tool
+from archives import (
+    ACTIONS,
+    CHANGES,
+    PLANT,
+    archive_once,
+    archive_stopped,
+    archiver,
+    last_archived,
+    plants_of,
+    request_of,
+    rows_of,
+    run_tool,
+)
 from check_since import act
-from lib.drawn_plants import CONSOLE, Hand, draw_plant, module, new_device
-from lib.places import AT_TOOLS
+from lib.drawn_plants import CONSOLE, Hand, draw_plant, new_device
 from lib.program import check
 from lib.server import Server
-from lib.tools import Yard, await_said, await_true, started
+from lib.tools import Yard, await_said, await_true
 from slow_count import change_rows, replay
 
 FLOOD = "SELECT flooded FROM flood WHERE plant = 1 AND area = ? ORDER BY number DESC LIMIT 1"
 GAPS = "SELECT first, last, began, ended FROM gap WHERE plant = ? ORDER BY first"
-
-
-def archiver(database: str, port: int) -> subprocess.Popen:
-    """An archiver without a device that runs on."""
-    command = module("archive", "run", database, "--port", port, "--name", "plant")
-    return started(subprocess.Popen(command, env=AT_TOOLS, text=True, stdout=subprocess.PIPE, stderr=subprocess.PIPE))
 
 
 def is_exact(yard: Yard, table: Table, database: str, hand: Hand) -> None:
@@ -86,13 +91,6 @@ def by_lines(yard: Yard, count: int) -> str:
     return f"{total} actions by lines, a gap of {missed - total}"
 
 
-def once(database: str, port: int) -> str:
-    """Archives what is there, without a device; what that says."""
-    run = run_tool("archive", "run", database, "--port", port, "--name", "plant", "--once")
-    check(run.returncode == 0, "alm_archive run:", run.stdout, run.stderr)
-    return run.stderr
-
-
 def restarts(yard: Yard, count: int) -> str:
     """An archiver without the device that is killed goes on where it was: with what the server remembers, by the state
     that it kept and by what it archived since. Nothing is missing, and nothing there twice."""
@@ -118,7 +116,7 @@ def restarts(yard: Yard, count: int) -> str:
             hand.connect(server)
         hand.ask(40)
         hand.leave()
-    said = once(database, server.port)
+    said = archive_once(database, server.port)
     check(said == "", "it says", said)
     check(rows_of(database, GAPS, 1) == [], "gaps", rows_of(database, GAPS, 1))
     check(rows_of(database, "SELECT COUNT(*) FROM plant") == [(1,)], "more plants than one")
@@ -137,13 +135,13 @@ def forgotten(yard: Yard, server: Server, device: str, database: str, hand: Hand
     server.end()
     missed, copy = len(hand.accepted), shutil.copyfile(device, yard.path("copy.device"))
     server = yard.serve(device, server.port)
-    said = once(database, server.port)
+    said = archive_once(database, server.port)
     check(f"actions {last + 1} to {missed} of plant: " in said and said.count("\n") == 1, "of a gap it says", said)
     check([row[:2] for row in rows_of(database, GAPS, 1)] == [(last + 1, missed)], rows_of(database, GAPS, 1))
     hand.connect(server)
     hand.ask(50)
     hand.leave()
-    check(once(database, server.port) == "", "behind a gap it doesn't go on")
+    check(archive_once(database, server.port) == "", "behind a gap it doesn't go on")
     check(last_archived(database) == len(hand.accepted) > missed, last_archived(database), len(hand.accepted))
     return server, copy
 
@@ -156,9 +154,12 @@ def another(yard: Yard, server: Server, device: str, copy: str, database: str, h
     server = yard.serve(device, server.port)
     other = Hand(hand.dice, hand.table, hand.moment)
     other.connect(server)
+    fewer = shutil.copyfile(database, yard.path("fewer.sqlite"))
+    said = archive_once(fewer, server.port)
+    check(f"the server has {other.count()} actions, and {before[-1][0]} are archived" in said, "of fewer it says", said)
     while other.count() < before[-1][0] + 20:
         other.ask(40)
-    said = once(database, server.port)
+    said = archive_once(database, server.port)
     check("its actions aren't those that were archived" in said, "of a copy it says", said)
     check(rows_of(database, ACTIONS, 1) == before, "the plant before has others")
     check(rows_of(database, GAPS, 2)[0][:2] == (1, other.count()), "of the copy is missing", rows_of(database, GAPS, 2))
@@ -226,13 +227,6 @@ def pause(running: subprocess.Popen, database: str) -> None:
                 running.send_signal(signal.SIGCONT)
 
 
-def stopped(database: str, device: str) -> str:
-    """Archives a device that isn't served, as the units do; what that says."""
-    run = run_tool("archive", "run", device, database, "--stopped", "--existing", "--name", "plant")
-    check(run.returncode == 0, "--stopped:", run.stdout, run.stderr)
-    return run.stderr
-
-
 def is_whole(table: Table, database: str, plant: int, accepted: dict[int, str]) -> None:
     """Each action of a plant is there once, and no gap is."""
     numbers = {alarm.tag: number for number, alarm in enumerate(table.alarms)}
@@ -280,13 +274,13 @@ def between(yard: Yard, count: int) -> str:
     server.end()
     running.kill()
     running.communicate()
-    stopped(database, device)
+    archive_stopped(device, database, "--existing")
     os.replace(older, device)
     other = Hand(dice, table, hand.moment)
     server = archives_between(yard, server, device, database, is_copy=True)
     other.connect(server)
     other.ask(60)
-    check(once(database, server.port) == "", "behind a copy it isn't whole")
+    check(archive_once(database, server.port) == "", "behind a copy it isn't whole")
     is_whole(table, database, 1, hand.accepted)
     is_whole(table, database, 2, {**kept, **other.accepted})
     other.leave()
@@ -298,12 +292,70 @@ def archives_between(yard: Yard, server: Server, device: str, database: str, is_
     """The next server at the place of one that ended, and what that one's end left is archived: of the device before
     it, or of a copy behind its start."""
     if not is_copy:
-        stopped(database, device)
+        archive_stopped(device, database, "--existing")
         return yard.serve(device, server.port)
     ended = shutil.copyfile(device, yard.path("plant.ended"))
     following = yard.serve(device, server.port)
-    stopped(database, ended)
+    archive_stopped(ended, database, "--existing")
     return following
 
 
-CHECKS = {"by_lines": by_lines, "restarts": restarts, "restored": restored, "between": between}
+def served_on(yard: Yard, device: str, hand: Hand, port: int = 0) -> Server:
+    """A server, and what is asked of it."""
+    server = yard.serve(device, port)
+    hand.connect(server)
+    hand.ask(60)
+    hand.leave()
+    return server
+
+
+def begun_empty(yard: Yard, _count: int) -> str:
+    """An archive that began by lines, and has no action yet, goes on as the same plant by --stopped."""
+    device, database = yard.format("empty.device", PLANT), yard.path("empty.sqlite")
+    server = yard.serve(device)
+    act(server, (CLOCK, "CLOCK 1000"), (FEED, "VAL 0 800"))
+    archive_once(database, server.port)
+    act(server, (3, "ACK 0"))
+    server.end()
+    check(archive_stopped(device, database) == "", "--stopped begins another plant")
+    numbers, gaps = [row[0] for row in rows_of(database, ACTIONS, 1)], [row[:2] for row in rows_of(database, GAPS, 1)]
+    check((numbers, gaps) == ([3], [(1, 2)]), "it has", numbers, "and the gaps", gaps)
+    return "an archive that had no action yet"
+
+
+def begun_with_device(yard: Yard, _count: int) -> str:
+    """An archive that an earlier version began with the device has no state. By lines it goes on as the same plant, and
+    what came since is a gap; by --stopped nothing is missing."""
+    dice = random.Random(13)
+    table = draw_plant(dice, 6, 1, 400_000)
+    device, database, hand = new_device(yard, "begun", table), yard.path("begun.sqlite"), Hand(dice, table)
+    server = served_on(yard, device, hand)
+    server.end()
+    archive_stopped(device, database)
+    with contextlib.closing(sqlite3.connect(database)) as connection:
+        connection.executescript("DELETE FROM state; UPDATE plant SET ends = NULL;")
+    whole, last = shutil.copyfile(database, yard.path("whole.sqlite")), len(hand.accepted)
+    server = served_on(yard, device, hand, server.port)
+    missed = len(hand.accepted)
+    said = archive_once(database, server.port)
+    check(f"actions {last + 1} to {missed} of plant: nobody asked" in said and said.count("\n") == 1, "it says", said)
+    check([row[:2] for row in rows_of(database, GAPS, 1)] == [(last + 1, missed)], rows_of(database, GAPS, 1))
+    server.end()
+    server = served_on(yard, device, hand, server.port)
+    server.end()
+    for one, gaps in ((whole, []), (database, [(last + 1, missed)])):
+        check(archive_stopped(device, one) == "", one, "doesn't go on")
+        check(last_archived(one) == len(hand.accepted) and plants_of(one) == 1, one, "has", last_archived(one))
+        check([row[:2] for row in rows_of(one, GAPS, 1)] == gaps, one, "lacks", rows_of(one, GAPS, 1))
+    is_whole(table, whole, 1, hand.accepted)
+    return "an archive that was begun with the device"
+
+
+CHECKS = {
+    "by_lines": by_lines,
+    "restarts": restarts,
+    "restored": restored,
+    "between": between,
+    "begun_empty": begun_empty,
+    "begun_with_device": begun_with_device,
+}

@@ -10,9 +10,10 @@ import time
 
 from lib.browsers import List, Page, Plant, engineer
 from alarms.client import FEED, Client
+from archives import archive_stopped
 from check_journal import SLOW, SYNC, held_actions, syncs
-from lib.drawn_plants import module, new_device
-from lib.places import AT_TOOLS, DOCS
+from lib.drawn_plants import new_device
+from lib.places import DOCS
 from lib.program import PLANT, check
 from alarms.table_file import Alarm, Table, device_size
 from lib.tools import Yard, slowness
@@ -270,21 +271,14 @@ def notes(yard: Yard, _count: int) -> str:
     )
     page.end()
     listed.end()
-    joined(yard, plant)
     plant.end()
+    joined(yard, plant)
     return "who and why"
 
 
 def joined(yard: Yard, plant: Plant) -> None:
     """The notes beside an archive's actions, as the page says."""
-    run = subprocess.run(
-        module("archive", "run", plant.device, yard.path("archive.sqlite"), "--port", plant.port, "--once"),
-        env=AT_TOOLS,
-        capture_output=True,
-        text=True,
-        timeout=60,
-    )
-    check(run.returncode == 0, run.stderr)
+    archive_stopped(plant.device, yard.path("archive.sqlite"))
     text = (DOCS / "CONTROL_ROOM.md").read_text(encoding="utf-8")
     query = re.search(r"```sql\n(.*?)```", text, re.DOTALL)[1]
     query = query.replace("/var/lib/alarms-browser/plant.sqlite", yard.path("notes.sqlite"))

@@ -6,9 +6,9 @@ import random
 
 from lib.drawn_plants import Hand, draw_plant, draw_request, new_device
 from alarms.client import FEED
-from archives import archive_once, run_tool
+from archives import FLOODS, archive_stopped, rows_of, run_tool
 from lib.program import check
-from slow_count import Shown, is_annunciation, replay
+from slow_count import Shown, flood_rows, is_annunciation, replay
 from lib.tools import Yard
 from slow_reports import SlowCount
 
@@ -120,9 +120,11 @@ def figures(yard: Yard, count: int) -> str:
         while len(hand.accepted) < min(count, 2500):
             hand.ask(dice.choice([10, 60, 120]))
         hand.leave()
-        archive_once(device, database, server.port)
         server.end()
+        archive_stopped(device, database)
         shown = replay(yard, table, [hand.accepted[one] for one in sorted(hand.accepted)])
+        floods = [row for row in rows_of(database, FLOODS, 1) if row[0]]
+        check(floods == flood_rows(shown), "the floods are", floods[:3])
         first = next(one.moment for one in shown if one.moment)
         for turn in range(5):
             begin, end = draw_span(dice, shown, first) if turn else (first, shown[-1].moment + 1)

@@ -8,19 +8,20 @@ import contextlib
 import os
 import pathlib
 import re
+import shutil
 import signal
 import sqlite3
 import subprocess
-import sys
 import urllib.request
 from dataclasses import dataclass
 
-from lib.tools import Yard, await_said, await_true, start, started, tool
+from lib.tools import Yard, await_said, await_true, start, tool
 
 from alarms.client import CLOCK, Client
+from archives import archive_stopped
 from damaged_devices import Place, content_of, gates, standing, written
 from alarms.store import Store
-from lib.places import AT_TOOLS, DOCS
+from lib.places import DOCS
 from lib.program import PLANT, Desk, check, draw_lines, run_words
 
 PAGE = DOCS / "DAMAGE.md"
@@ -133,7 +134,7 @@ def check_left(plant: Plant, damage: Damage, numbers: list[str]) -> None:
 
 
 class Watched:
-    """A served device, the exporter, the follower and the archive over it."""
+    """A served device, the exporter and the follower over it."""
 
     def __init__(self, yard: Yard):
         self.yard, self.device, self.moment = yard, yard.format("watched.device", PLANT), 0
@@ -145,19 +146,6 @@ class Watched:
             )
         exporter = start("alm_metrics", "--port", self.server.port, "--listen", 0, "--device", self.device)
         self.address = await_said(exporter, "/metrics").split()[1]
-        words = [
-            sys.executable,
-            "-m",
-            "alarms.archive",
-            "run",
-            self.device,
-            yard.path("watched.sqlite"),
-            "--port",
-            str(self.server.port),
-            "--slot",
-            "12",
-        ]
-        self.archive = started(subprocess.Popen(words, env=AT_TOOLS, stderr=subprocess.PIPE, text=True))
 
     def act(self, count: int) -> None:
         with Client.connect(self.server.port, CLOCK) as clock:
@@ -177,16 +165,10 @@ class Watched:
             file.seek(at)
             file.write(bytes([old ^ bit]))
 
-    def archived(self) -> int:
-        with contextlib.closing(sqlite3.connect(self.yard.path("watched.sqlite"))) as store:
-            return store.execute("SELECT MAX(number) FROM action").fetchone()[0] or 0
-
 
 def watched(yard: Yard, _step: int) -> str:
-    """Bytes change below a running server: exporter, follower and archive say so, and go on once a checkpoint has
-    written the plant again."""
+    """Bytes change below a running server: exporter and alm_check say so, and no longer once they are put back."""
     plant = Watched(yard)
-    await_true("twenty archived actions", lambda: os.path.exists(yard.path("watched.sqlite")) and has_twenty(plant))
     await_true("the trail", lambda: yard.read("trail").endswith("20 CLOCK 20\n"))
     check("alarms_device_damaged 0\n" in plant.page(), "of a whole device the exporter says", plant.page())
     at = gates(content_of(plant.device))[-1][0]
@@ -196,13 +178,6 @@ def watched(yard: Yard, _step: int) -> str:
         judge_watched(plant, place, field, bit)
     plant.server.end()
     return "damage below a running server"
-
-
-def has_twenty(plant: Watched) -> bool:
-    try:
-        return plant.archived() >= 20
-    except sqlite3.OperationalError:  # its tables are being made
-        return False
 
 
 def judge_watched(plant: Watched, at: int, field: str, bit: int) -> None:
@@ -228,31 +203,21 @@ def healed(yard: Yard, _step: int) -> str:
     """What changed behind the last action that was followed is told, is archived as a gap, and the rest behind it as it
     was."""
     plant = Watched(yard)
-    await_true("twenty archived actions", lambda: os.path.exists(yard.path("watched.sqlite")) and has_twenty(plant))
     await_true("the trail", lambda: yard.read("trail").endswith("20 CLOCK 20\n"))
-    for process in (plant.journal, plant.archive):
-        process.send_signal(signal.SIGSTOP)
-        await_true(
-            "a stopped process",
-            lambda: pathlib.Path(f"/proc/{process.pid}/stat").read_text(encoding="ascii").rpartition(")")[2].split()[0]
-            == "T",
-        )
+    archive_stopped(shutil.copyfile(plant.device, yard.path("copy.device")), yard.path("watched.sqlite"))
+    plant.journal.send_signal(signal.SIGSTOP)
+    state = pathlib.Path(f"/proc/{plant.journal.pid}/stat")
+    await_true("a stopped process", lambda: state.read_text(encoding="ascii").rpartition(")")[2].split()[0] == "T")
     at = gates(content_of(plant.device))[-1][0]
     plant.act(3)
     plant.flip(at + 35 + KIND, 0x40)
-    for process in (plant.journal, plant.archive):
-        process.send_signal(signal.SIGCONT)
-    for process in (plant.journal, plant.archive):
-        await_said(process, f"is damaged in half 0 at byte {at + 35 + KIND}: text of an action")
-    check(
-        plant.archived() == 21 and yard.read("trail").endswith("\n21 CLOCK 21\n"),
-        "before the damage stand",
-        plant.archived(),
-        yard.read("trail")[-60:],
-    )
+    plant.journal.send_signal(signal.SIGCONT)
+    await_said(plant.journal, f"is damaged in half 0 at byte {at + 35 + KIND}: text of an action")
+    check(yard.read("trail").endswith("\n21 CLOCK 21\n"), "before the damage stands", yard.read("trail")[-60:])
     plant.act(80)
-    await_true("a checkpoint in the archive", lambda: plant.archived() == 103)
     await_true("a checkpoint in the trail", lambda: yard.read("trail").endswith("\n103 CLOCK 103\n"))
+    plant.server.end()
+    archive_stopped(plant.device, yard.path("watched.sqlite"))
     with contextlib.closing(sqlite3.connect(yard.path("watched.sqlite"))) as store:
         missing = sorted(set(range(1, 104)) - {number for number, in store.execute("SELECT number FROM action")})
         gaps = store.execute("SELECT first, last, why FROM gap").fetchall()
@@ -268,7 +233,6 @@ def healed(yard: Yard, _step: int) -> str:
         "the trail has",
         yard.read("trail")[-200:],
     )
-    plant.server.end()
     return f"{len(missing)} actions of a damaged journal named as missing"
 
 

@@ -7,14 +7,11 @@ import contextlib
 import os
 import re
 import shutil
-import signal
-import time
 
-from archives import archiver, last_archived, rows_of, run_tool
-from lib.drawn_plants import new_device
+from archives import rows_of, run_tool
 from alarms.client import CLOCK, Client
 from lib.program import check
-from lib.tools import Yard, await_true
+from lib.tools import Yard
 from check_counted import counted_once, counted_postgresql
 from archives import one_line
 from archive_site import OPEN, STOPPED, Site, page_block, write_new_table
@@ -30,7 +27,7 @@ def replaced_by(yard: Yard, seed: int, block: str) -> Site:
     and both begin again."""
     site = Site(yard, seed)
     site.ask(120)
-    site.stop()
+    site.archive_stopped()
     shutil.copyfile(site.device, yard.path("backup/plant.device"))
     site.ask(60)
     site.archive()
@@ -96,44 +93,6 @@ def tails(yard: Yard, _count: int) -> str:
     return f"ends of {len(found)} replaced plants"
 
 
-def while_running(yard: Yard, _count: int) -> str:
-    """An archiver that runs on while the device is replaced tells which of its last actions no query showed; a moved
-    file's are known."""
-    site = Site(yard, 90)
-    site.ask(60)
-    running = archiver(site.device, site.database, site.port)
-    await_true(
-        "the archive", lambda: os.path.exists(site.database) and last_archived(site.database) == max(site.accepted)
-    )
-    running.send_signal(signal.SIGSTOP)
-    time.sleep(0.3)
-    site.ask(50)
-    last, archived = max(site.accepted), site.numbers(1)[-1]
-    site.stop()
-    fresh = new_device(yard, "fresh", site.table)
-    os.replace(fresh, site.device)
-    server = yard.serve(site.device, site.port)
-    with Client.connect(server.port, CLOCK) as clock:
-        clock.clock(site.moment + 1000)
-    running.send_signal(signal.SIGCONT)
-    await_true("the plant that is there now", lambda: rows_of(site.database, "SELECT COUNT(*) FROM plant") == [(2,)])
-    running.send_signal(signal.SIGINT)
-    said = running.communicate(timeout=60)[1]
-    server.end()
-    gaps = [row for row in site.gaps() if row[0] == 1]
-    missing = sorted(
-        number for _, first, end, _ in gaps for number in range(first, (first if end is None else end) + 1)
-    )
-    check(
-        sorted({*site.numbers(1), *missing}) == list(range(1, last + 1)) and (gaps or site.numbers(1)[-1] == last),
-        archived,
-        last,
-        gaps,
-        said,
-    )
-    return f"{last - site.numbers(1)[-1]} actions that no query showed"
-
-
 def refusals(yard: Yard, _count: int) -> str:
     """A device that is served, that isn't there or isn't one, and words that don't go together."""
     site = Site(yard, 91)
@@ -164,10 +123,4 @@ def refusals(yard: Yard, _count: int) -> str:
     return "a stopped device"
 
 
-CHECKS = {
-    "tails": tails,
-    "while_running": while_running,
-    "refusals": refusals,
-    "counted": counted_once,
-    "counted_postgresql": counted_postgresql,
-}
+CHECKS = {"tails": tails, "refusals": refusals, "counted": counted_once, "counted_postgresql": counted_postgresql}

@@ -7,7 +7,7 @@ import time
 
 from alarms.client import CLOCK, FEED, Client
 from alarms.table_file import load_table, read_table
-from archives import archive_once
+from archives import archive_stopped
 from lib.places import EXAMPLES
 from lib.program import check
 from lib.tools import Terminal, Yard, tool
@@ -65,10 +65,10 @@ def console(yard: Yard, port: int) -> None:
         terminal.press("q")
 
 
-def reports(yard: Yard, device: str, port: int) -> None:
+def reports(yard: Yard, device: str) -> None:
     """A setpoint that was given is told in the operator's unit."""
     archive, folder = yard.path("archive.sqlite"), yard.path("figures")
-    archive_once(device, archive, port, "--name", "plant")
+    archive_stopped(device, archive)
     for words, wanted in (
         (("--details", DETAILS), ["TI-101", "setpoint", "385.5", "°C"]),
         ((), ["TI-101", "setpoint", "3855"]),
@@ -96,6 +96,6 @@ def units(yard: Yard) -> str:
             found = one.attributes(0).setpoint
         check(found == 3855, "the server has", found)
         clock.clock(int(time.time()) + 1)
-        reports(yard, device, server.port)
     server.end()
+    reports(yard, device)
     return "units of the operator in three tools"

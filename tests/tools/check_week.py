@@ -1,4 +1,5 @@
-"""A week of a refinery's life goes through server, archive and report in one run, with kills in between.
+"""A week of a refinery's life goes through server, archive and report in one run, with kills in between. Its device is
+archived at each end of a server, so that floods are those of each action.
 tests/tools/history.py runs this check.
 
 The life is drawn: 200 alarms of which some come often, some chatter and some stay for days; upsets that bring a flood;
@@ -11,50 +12,38 @@ import itertools
 import os
 import random
 import re
-import signal
 import statistics
 import subprocess
 import sys
 import time
 
-from lib.drawn_plants import CONSOLE
+from lib.drawn_plants import CONSOLE, module
+from lib.places import AT_TOOLS
 from alarms.client import CLOCK, FEED, Client, Lost, Refused
-from archives import ACTIONS, archive_once, archiver, last_archived, python_with, request_of, rows_of, run_tool
+from archives import ACTIONS, archive_stopped, python_with, request_of, rows_of, run_tool
 from check_reports import is_same, read_csv
 from slow_reports import periods
 from lib.program import check
 from slow_count import SLOTS
 from alarms.table_file import Table, load_table
-from lib.tools import Yard, await_true
+from lib.tools import Yard, started
 from drawn_week import BEGIN, DrawnWeek, REFINERY
 from hours import HOUR, WEEK
 
 
 class WeekRun:
-    """Asks a drawn week of a server, while archiver and server are killed."""
+    """Asks a drawn week of a server, which is killed; its device is archived then, and the archiver is killed too."""
 
     def __init__(self, yard: Yard, seconds: int, kills: int):
         self.yard, self.table = yard, load_table(REFINERY)
         self.week = DrawnWeek(self.table, 61, seconds)
         self.device, self.database = yard.format("week.device", REFINERY), yard.path("week.sqlite")
-        dice = random.Random(62)
-        self.kills = sorted(dice.sample(range(BEGIN + seconds // 20, BEGIN + seconds), 2 * kills))
+        self.dice = random.Random(62)
+        self.kills = sorted(self.dice.sample(range(BEGIN + seconds // 20, BEGIN + seconds), 2 * kills))
         self.accepted: dict[int, str] = {}
         self.moment = BEGIN - 1
         self.server = yard.serve(self.device)
         self.connect()
-        self.archiver = self.start()
-
-    def start(self) -> subprocess.Popen:
-        return archiver(
-            self.device,
-            self.database,
-            self.server.port,
-            "--name",
-            "refinery",
-            stdout=subprocess.DEVNULL,
-            stderr=subprocess.DEVNULL,
-        )
 
     def connect(self) -> None:
         self.clients = {slot: Client.connect(self.server.port, slot, patience=60) for slot in (CLOCK, FEED, CONSOLE)}
@@ -89,24 +78,33 @@ class WeekRun:
                 self.restart()
 
     def kill(self) -> None:
-        """Ends the server and the archiver in turn, the server amid requests."""
-        if len(self.kills) % 2:
+        """Ends the server amid requests, or between two and then the archiver amid its work, in turn."""
+        is_amid = len(self.kills) % 2 == 1
+        if is_amid:
             requests = [f"CLOCK {moment}" for moment in range(self.moment + 1, self.moment + 200)]
             self.clients[CLOCK].send("".join(f"{number} {request}\n" for number, request in enumerate(requests)))
             self.server.process.kill()
             self.moment += 200
-            self.restart()
-        else:
-            self.archiver.kill()
-            self.archiver.communicate()
-            self.archiver = self.start()
+        self.restart(not is_amid)
 
-    def restart(self) -> None:
+    def restart(self, is_archiver_killed: bool = False) -> None:
+        """Ends the server, archives its device, and begins another one."""
+        self.end(is_archiver_killed)
+        self.server = self.yard.serve(self.device, self.server.port)
+        self.connect()
+
+    def end(self, is_archiver_killed: bool = False) -> None:
+        """Ends the server, and archives its device; before that maybe with an archiver that is killed."""
         for client in self.clients.values():
             client.close()
         self.server.end()
-        self.server = self.yard.serve(self.device, self.server.port)
-        self.connect()
+        if is_archiver_killed:
+            command = module("archive", "run", self.device, self.database, "--stopped", "--name", "refinery")
+            archiver = started(subprocess.Popen(command, env=AT_TOOLS, stdout=subprocess.DEVNULL))
+            time.sleep(self.dice.uniform(0.2, 1.5))
+            archiver.kill()
+            archiver.wait()
+        archive_stopped(self.device, self.database, name="refinery")
 
 
 class Counted:
@@ -268,13 +266,7 @@ def week(yard: Yard, count: int) -> str:
     run.run()
     asked = time.monotonic() - began
     last = max(run.accepted)
-    await_true("the last action in the archive", lambda: last_archived(run.database) == last, patience=300)
-    run.archiver.send_signal(signal.SIGINT)
-    run.archiver.communicate(timeout=60)
-    archive_once(run.device, run.database, run.server.port, "--name", "refinery")
-    for client in run.clients.values():
-        client.close()
-    run.server.end()
+    run.end()
     actions = rows_of(run.database, ACTIONS, 1)
     check(
         [row[0] for row in actions] == list(range(1, last + 1)) and not rows_of(run.database, "SELECT * FROM gap"),

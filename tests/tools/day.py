@@ -1,5 +1,6 @@
 #!/usr/bin/env python3
-"""A drawn day of a plant in two archives, of an archiver with the device and of one by the server's lines.
+"""A drawn day of a plant in two archives: one by the server's lines alone, and one to which each server's end is
+added from the device, as the units do.
 
     tests/tools/day.py PROGRAM [--short] [--seed N]
 
@@ -27,8 +28,8 @@ from lib.program import Wrong, begin, check, count_of, finish, run_words
 from lib.server import Server
 from lib.tools import Yard, await_true, end_all, started, tool
 
-# The slots of the archivers, with the device and without.
-SLOTS = {"device": 13, "lines": 12}
+# The slots of the archivers: of the one with each server's end, and of the one by lines alone.
+SLOTS = {"units": 13, "lines": 12}
 # Turns of a day and of a short one, and requests of each client in a turn.
 TURNS, FEW, REQUESTS = 24, 10, 40
 SEGMENT = 2_000_000
@@ -45,12 +46,12 @@ class Archived:
 
     def __init__(self, yard: Yard, way: str, device: str):
         self.yard, self.way, self.database = yard, way, yard.path(f"{way}.sqlite")
-        self.device = [device] if way == "device" else []
+        self.device = device if way == "units" else ""
         self.running: subprocess.Popen | None = None
         self.kills = 0
 
     def words(self, *more: object) -> list[str]:
-        return [*self.device, self.database, "--name", "plant", *map(str, more)]
+        return [self.database, "--name", "plant", *map(str, more)]
 
     def start(self, port: int) -> None:
         if self.running is None:
@@ -74,9 +75,10 @@ class Archived:
         return "a new archive" in self.said() and rows_of(self.database, "SELECT MAX(plant) FROM plant") == [(plant,)]
 
     def close(self) -> None:
-        """Archives a stopped device, as the page's blocks do before one is put aside."""
+        """Archives what a server left on its device, as its unit does."""
         if self.device:
-            run = run_tool("archive", "run", *self.words("--stopped"))
+            self.kill()
+            run = run_tool("archive", "run", self.device, *self.words("--stopped", "--existing"))
             check(run.returncode == 0, "--stopped:", run.stdout, run.stderr)
 
 
@@ -107,6 +109,7 @@ class Day:
                 event()
         self.crowd.end(self.era)
         if self.server is None:
+            self.close()
             self.server = self.yard.serve(self.device, self.port)
         if self.dice.random() < 0.5:
             self.catch_up(count_of_served(self.server))
@@ -115,21 +118,24 @@ class Day:
         self.server.end()
         self.server, self.server_kills = None, self.server_kills + 1
 
+    def close(self) -> None:
+        """Archives what the server left."""
+        for one in self.archives:
+            one.close()
+
     def stop(self) -> int:
         """Ends the server; how many actions its device has."""
         self.server.end()
         self.server = None
+        self.close()
         shown = run_words(self.yard.program, ["show", self.device])
         check(shown.returncode == 0, "show:", shown.stderr)
         return count_of(shown.stdout)
 
     def put(self, device: str, era: Era) -> None:
         """Puts another device in the place of the one that is stopped, as the page's blocks do."""
-        for one in self.archives:
-            if one.device:
-                one.kill()
-            one.close()
         os.replace(device, self.device)
+        self.close()
         self.era = era
         self.server = self.yard.serve(self.device, self.port)
         self.catch_up(0)
@@ -214,13 +220,13 @@ def run_day(yard: Yard, seed: int, turns: int) -> str:
         whole = end_of_plant(yard, plant, era, last, databases)
         for one in day.archives:
             judge_numbers(one.database, plant, whole)
-            judge_changes(one.database, plant, whole, one.way == "device")
+            judge_changes(one.database, plant, whole)
             gone[one.way] += last - rows_of(one.database, "SELECT COUNT(*) FROM action WHERE plant = ?", plant)[0][0]
     for one in day.archives:
         check(rows_of(one.database, "SELECT * FROM denied") == [], one.way, "the server denied", one.said())
         check("Traceback" not in one.said(), one.said())
     total = sum(last for _, last in ended)
-    check(gone["device"] == 0, "the archive of the device lacks", gone["device"])
+    check(gone["units"] == 0, "the archive with each server's end lacks", gone["units"])
     check(gone["lines"] < total * 3 / 4, "the archive by lines lacks", gone["lines"], "of", total)
     return (
         f"{total} actions of {len(ended)} plants, {day.server_kills} kills of the server, "

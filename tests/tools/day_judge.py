@@ -1,11 +1,11 @@
 """What an archive has of a drawn day, held against what the clients wrote down. A part of day.py."""
 from dataclasses import dataclass
 
-from archives import ACTIONS, CHANGES, FLOODS, request_of, rows_of
+from archives import ACTIONS, CHANGES, request_of, rows_of
 from day_clients import CLOCK, FEED, Asked, Era
 from lib.program import check
 from lib.tools import Yard
-from slow_count import Shown, change_rows, flood_rows, replay
+from slow_count import Shown, change_rows, replay
 
 GAPS = "SELECT first, last FROM gap WHERE plant = ? ORDER BY first"
 OWNED = {"CLOCK": CLOCK, "VAL": FEED, "DESIGN": FEED}
@@ -67,7 +67,7 @@ def judge_numbers(database: str, plant: int, ended: Ended) -> None:
         unanswered[made] -= 1
 
 
-def judge_changes(database: str, plant: int, ended: Ended, has_floods: bool) -> None:
+def judge_changes(database: str, plant: int, ended: Ended) -> None:
     """What archived actions did is what the program shows of them."""
     missing = set(told_missing(database, plant, ended.last))
     wanted = [row for row in change_rows(ended.shown, ended.era.table) if row[0] not in missing]
@@ -79,9 +79,6 @@ def judge_changes(database: str, plant: int, ended: Ended, has_floods: bool) -> 
         len(there),
         len(wanted),
     )
-    if has_floods and not missing:
-        floods = [row for row in rows_of(database, FLOODS, plant) if row[0]]
-        check(floods == flood_rows(ended.shown), database, "other floods", floods[:3])
 
 
 def end_of_plant(yard: Yard, plant: int, era: Era, last: int, databases: list[str]) -> Ended:

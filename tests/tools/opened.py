@@ -39,10 +39,7 @@ ASKED = {"metrics --port P --listen 0": "/metrics", "browser --port P --listen 0
 # The same, of those that nobody asks.
 LEFT = "console --port P; alertmanager --port P --to http://127.0.0.1:9"
 # Commands that open the device.
-BY_FILE = (
-    "check DEVICE; salvage DEVICE --table; uncache DEVICE; journal DEVICE; mirror DEVICE --port P;"
-    " archive run DEVICE OTHER --port P --once"
-)
+BY_FILE = "check DEVICE; salvage DEVICE --table; uncache DEVICE; journal DEVICE; mirror DEVICE --port P"
 BY_FILE_ASKED = {"metrics --port P --listen 0 --device DEVICE": "/metrics"}
 # Both, of a device that isn't served.
 STOPPED, CHANGED = "archive run DEVICE OTHER --stopped", "change_table DEVICE TABLE --program PROGRAM"

@@ -1,34 +1,30 @@
 """Keeps the accepted actions of a served plant, and what they annunciated, in SQLite or PostgreSQL.
 
-    alm_archive run DEVICE DATABASE --port P        archives what comes, until it is ended
-    alm_archive run DATABASE --port P               the same by the server's lines alone, on any machine
+    alm_archive run DATABASE --port P --name PLANT  archives what comes, until it is ended
     alm_archive run DEVICE DATABASE --stopped       archives a device that isn't served, up to its end
     alm_archive list DATABASE                       the plants of an archive, their actions and gaps
     alm_archive prune DATABASE --name PLANT --before 2026-01-31     takes away what is older
 
 DATABASE is the path of a SQLite file, which is made if it isn't there, or a database of PostgreSQL as
-postgresql://USER@HOST/NAME. For that it needs psycopg (Debian: python3-psycopg). The plant's name is the device file's,
-without its ending, or --name PLANT.
+postgresql://USER@HOST/NAME. For that it needs psycopg (Debian: python3-psycopg). Without --name the plant is called by
+the server's port or folder, with --stopped by the device file, without its ending.
 
-Each action is archived once, under its number, and only once a query of the server shows it: so none that a power
-failure could take. It asks at a console's slot: 13, or --slot K. After a pause it goes on with what the device still
-holds. What is gone is kept as a gap, and told. While the server can't be reached it tries again. If the table was
-changed, or an older copy of the device was put in its place, the archive goes on with another plant of the same name.
+It asks the server alone, by its lines, on any machine. Each action is archived once, under its number, with the slot
+that asked, and only once a query shows it: so none that a power failure could take. It asks at a console's slot: 13, or
+--slot K. A new archive begins with the rows as they are. After a pause it goes on with what the server remembers:
+65,536 actions, and none of before its start. What is gone is kept as a gap, and told. Floods begin and end at the look
+that sees them. While the server can't be reached it tries again. If the table was changed, or an older copy of the
+device was put in its place, the archive goes on with another plant of the same name.
 
-Which slot asked for an action is archived too, as long as the server remembers it (SINCE): 65,536 actions, and none of
-before its start.
-
-Without DEVICE it asks the server alone, and begins with the rows as they are. After a pause it goes on with what the
-server remembers. What it no longer does is a gap, as what came just before it ended. Floods begin and end at the look
-that sees them.
+What came just before the server ended is on its device. With --stopped that is archived, as far back as the device
+reaches; the slot that asked is known of a device of version 03 alone. Before a stopped device is put aside, do that:
+else the archive has a gap with an open end where the next plant begins. The units do it with --existing, once the
+server is stopped and over a copy from before its next start. An archiver by lines goes on from there.
 
 What each action did is computed. So once an hour, where a plant begins and behind each gap, each row is held against
 what the server shows (ROW). What differs is logged, and told by reports and by a page of metrics, --metrics PORT.
 
-With --once it archives what is there and ends. With --seconds S it ends after S seconds. With --stopped, before a
-stopped device is put aside, nothing of it is missing; else the archive has a gap with an open end where the next plant
-begins. The units do that with --existing, once the server is stopped and over a copy from before its next start. An
-archiver by lines goes on from there.
+With --once it archives what is there and ends. With --seconds S it ends after S seconds.
 """
 import argparse
 import contextlib
@@ -52,6 +48,11 @@ from .moments import moment_of
 
 # Seconds between two looks.
 PAUSE = 0.2
+# What is said of a DEVICE that is served.
+OF_A_DEVICE = (
+    "a served plant is archived by its lines: alm_archive run DATABASE --port P --name PLANT; its DEVICE by --stopped,"
+    " once the server has ended"
+)
 
 say = sayer("alm_archive")
 
@@ -104,18 +105,13 @@ def name_of_plant(chosen: argparse.Namespace) -> str:
     return os.path.splitext(os.path.basename(chosen.device))[0] if chosen.device else name_of(chosen.port)
 
 
-def follower_of(chosen: argparse.Namespace, served: Served) -> Follower | LineFollower:
-    """What follows the plant: by its device, or where none is given by its server's lines."""
-    return Follower(chosen.device, served) if chosen.device else LineFollower(chosen.port, served)
-
-
 def run(chosen: argparse.Namespace) -> None:
     """Archives until it is ended."""
     name = chosen.name or name_of_plant(chosen)
     if chosen.stopped:
         return run_stopped(chosen, name)
     served = Served(chosen.port, chosen.slot, say)
-    with Store.open(chosen.database, make=True) as store, follower_of(chosen, served) as follower:
+    with Store.open(chosen.database, make=True) as store, LineFollower(chosen.port, served) as follower:
         archiver = Archiver(store, name, follower)
         if chosen.metrics is not None:
             show_page(chosen.metrics, archiver.metrics, say)
@@ -126,8 +122,7 @@ def run(chosen: argparse.Namespace) -> None:
         while ends is None or time.monotonic() < ends:
             try:
                 any_news = archiver.look()
-            except (NoDevice, FileNotFoundError) as fault:
-                # it is being formatted, or replaced: the next look finds what is there then
+            except NoDevice as fault:  # an action that no row admits: the next look has later rows
                 served.say_once(str(fault), "- trying again")
                 any_news = False
             if not any_news:
@@ -138,7 +133,7 @@ def archive_once(archiver: Archiver, served: Served) -> None:
     """Archives what the server shows by now."""
     archiver.look_on()
     if not served.is_there or archiver.kept is None:
-        raise Lost(served.said or f"{archiver.follower.path} isn't the server's device")
+        raise Lost(served.said)
     print(f"{archiver.name}: plant {archiver.plant.number}, {archiver.plant.last} actions")
 
 
@@ -147,12 +142,7 @@ def arguments() -> Parser:
     words = Parser("alm_archive", __doc__)
     commands = words.add_subparsers(required=True, metavar="COMMAND", parser_class=Parser)
     command = commands.add_parser("run", help="archive a served plant")
-    command.add_argument(
-        "device",
-        metavar="DEVICE",
-        nargs="?",
-        help="the device file; where it is left out the server's lines are enough",
-    )
+    command.add_argument("device", metavar="DEVICE", nargs="?", help="with --stopped: the device file")
     command.add_argument("database", metavar="DATABASE", help="a file of SQLite, or a database of PostgreSQL")
     add_port(command, required=False)
     add_slot(command, 13)
@@ -192,8 +182,8 @@ def main() -> None:
     chosen = words.parse_args()
     if chosen.does is run and (chosen.port is None) != chosen.stopped:
         words.error("one of --port, --sockets and --stopped is required, and no two of them")
-    if chosen.does is run and chosen.stopped and chosen.device is None:
-        words.error("--stopped wants a DEVICE")
+    if chosen.does is run and chosen.stopped != (chosen.device is not None):
+        words.error("--stopped wants a DEVICE" if chosen.stopped else OF_A_DEVICE)
     end_of("alm_archive", lambda: chosen.does(chosen))
 
 

@@ -4,6 +4,7 @@ from typing import Iterator, Optional
 
 from .archive_check import ArchiveCheck
 from .archive_rows import (
+    SLOTS,
     ArchivedPlant,
     action_row,
     alarm_rows,
@@ -16,7 +17,6 @@ from .archive_rows import (
     table_of,
 )
 from .archive_state import keep_state, kept_plant
-from .askers import Askers
 from .device_file import Damaged
 from .ending import sayer
 from .known import known
@@ -24,7 +24,7 @@ from .line_follower import LINES, LineFollower
 from .metrics_page import Metric
 from .mirror import Follower
 from .model import PlantModel
-from .plant_mirror import Begun, Gap, News, Replaced, Step
+from .plant_mirror import Begun, Gap, News, Step
 from .store import Store
 from .table_file import Table, fixed
 
@@ -33,10 +33,8 @@ STEPS = 2000
 # Seconds after which the state of a plant that is followed by lines is kept again.
 KEEP = 3600.0
 BEFORE = "before the archive"
-# Why the end of a plant is missing: its file was read no further, or nobody read it.
-REPLACED, UNSEEN = "replaced before a query showed them", "the plant's end wasn't seen"
-# The same, where bytes of it are others than those that were written.
-DAMAGED = "the device is damaged at byte {}"
+# Why the end of a plant is missing: nobody read it, or bytes of it are others than those that were written.
+UNSEEN, DAMAGED = "the plant's end wasn't seen", "the device is damaged at byte {}"
 
 say = sayer("alm_archive")
 
@@ -46,7 +44,7 @@ class Archiver:
 
     def __init__(self, store: Store, name: str, follower: Follower | LineFollower):
         self.store, self.name, self.follower = store, name, follower
-        self.askers, self.check = Askers(follower.served), ArchiveCheck(follower.served)
+        self.check = ArchiveCheck(follower.served)
         self.kept_at: Optional[float] = None
         self.missing = 0
         if isinstance(follower, LineFollower):
@@ -128,7 +126,7 @@ class Archiver:
         elif isinstance(one, Gap):
             self.gap(one.first, one.last, self.follower.lost)
         else:
-            self.leave(one)
+            self.leave()
         return True
 
     @property
@@ -172,9 +170,13 @@ class Archiver:
             return "its clock is behind what is archived"
         if count == last.last and self.model.now == last.moment:
             return ""
-        if count >= last.last and LINES not in (self.device(), last.device) and self.device() != last.device:
+        if count >= last.last and self.is_other_file(last):
             return "the file is another one, and has none of the actions that were archived"
         return ""
+
+    def is_other_file(self, plant: ArchivedPlant) -> bool:
+        """Whether an archived plant was read of another file than this one; what went by lines was of no file."""
+        return LINES not in (self.device(), plant.device) and self.device() != plant.device
 
     def new_plant(self, why: str) -> None:
         """Begins another plant of the name, with what the device holds."""
@@ -182,7 +184,7 @@ class Archiver:
         model, served = self.model, self.follower.served
         shown = self.follower.mirror.last() if served.place is None else served.count
         if before and not before.is_whole:
-            self.open_gap(before, None, UNSEEN)
+            self.open_gap(before, UNSEEN)
         self.store.insert(
             "plant", [(number, self.name, self.device(), len(model.windows), model.count, shown, model.count, None)]
         )
@@ -216,26 +218,16 @@ class Archiver:
             say(f"actions {first} to {last} of {self.name}: {why}")
             self.held = None
 
-    def leave(self, replaced: Replaced) -> None:
-        """The device was replaced. What of its end isn't archived is a gap."""
+    def leave(self) -> None:
+        """The device was replaced."""
         self.write()
-        if self.kept and replaced.last is not None:
-            if replaced.last > self.plant.last:
-                self.open_gap(self.plant, replaced.last, REPLACED)
-            self.store.run(
-                "UPDATE plant SET ends = ? WHERE plant = ?", (max(self.plant.last, replaced.last), self.plant.number)
-            )
-            self.store.commit()
         self.kept = None
         say("another device is in the place of", self.follower.path)
 
-    def open_gap(self, plant: ArchivedPlant, last: Optional[int], why: str) -> None:
-        """The end of a plant that isn't archived; up to which action and moment may not be known."""
-        self.store.insert("gap", [(plant.number, plant.last + 1, last, plant.moment, None, why)])
-        say(
-            f"actions {plant.last + 1} {'and later' if last is None else f'to {last}'} of {self.name}, plant"
-            f" {plant.number}: {why}"
-        )
+    def open_gap(self, plant: ArchivedPlant, why: str) -> None:
+        """The end of a plant that isn't archived; up to which action and moment isn't known."""
+        self.store.insert("gap", [(plant.number, plant.last + 1, None, plant.moment, None, why)])
+        say(f"actions {plant.last + 1} and later of {self.name}, plant {plant.number}: {why}")
 
     def close(self) -> None:
         """The device's end is archived. From there an archiver by lines goes on."""
@@ -248,14 +240,14 @@ class Archiver:
         if self.kept and not self.store.value(
             "SELECT COUNT(*) FROM gap WHERE plant = ? AND first = ?", (self.plant.number, self.plant.last + 1)
         ):
-            self.open_gap(self.plant, None, DAMAGED.format(at))
+            self.open_gap(self.plant, DAMAGED.format(at))
             self.close()
 
     def step(self, step: Step) -> bool:
         """Archives an action, or holds one against the archive that has it; whether it is of this plant."""
         if step.number <= self.plant.last:
             return self.compare(step)
-        slot = self.askers.of(step) if step.slot is None else step.slot
+        slot = SLOTS.get(step.action.word) if step.slot is None else step.slot
         self.actions.append(action_row(self.plant.number, step, self.tags, slot))
         self.changes += [
             change_row(self.plant.number, step.number, step.moment, change, self.tags) for change in step.changes
@@ -284,9 +276,10 @@ class Archiver:
         return step.number < self.plant.last or self.settle()
 
     def settle(self) -> bool:
-        """The device has all that is archived, so it is that plant, and the file is its file."""
+        """The device has all that is archived, so it is that plant, and the file is its file. Where no action is archived
+        that could be compared, its moment is that of the plant, and it isn't another file."""
         self.held = None
-        if not self.compared and self.device() != self.plant.device:
+        if not self.compared and (self.is_other_file(self.plant) or self.model.now != self.plant.moment):
             return self.restart()
         self.store.run("UPDATE plant SET device = ? WHERE plant = ?", (self.device(), self.plant.number))
         self.store.commit()
