@@ -17,7 +17,7 @@ SERVER, CLOCK_UNIT, FEED_UNIT, METRICS_UNIT = (
     "alm_feed@plant",
     "alm_metrics@plant",
 )
-# It runs in the place of the metrics' unit.
+# Its timer starts it.
 DEVICE_METRICS = "alm_device_metrics@plant"
 
 

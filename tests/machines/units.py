@@ -155,25 +155,36 @@ def tag_number(tag):
 
 
 def watch():
-    """Who is connected, the journal, the metrics with the journal's figures, and the audit trail."""
+    """Who is connected, the journal, a page of metrics, the audit trail, and the page of the device."""
     blocks = blocks_of("Watch")
     text = run(blocks[0])
-    check(f"{FOLDER}/17" in text and re.search(r"\bepoch 1\b", text), "watch printed", text)
+    check(
+        f"{FOLDER}/17" in text and re.search(r"\bepoch 1\b", text) and "is whole: half 0" in text, "watch printed", text
+    )
     output("systemctl", "stop", METRICS_UNIT)
     shown, trail = blocks[1].splitlines()
     page = "from urllib.request import urlopen; print(urlopen('http://127.0.0.1:9466/metrics').read().decode())"
     text = run(f'{shown}\nsleep 3\npython3 -c "{page}"\nkill %1\ntimeout -s INT 4 {trail.partition("#")[0]} || true')
-    check("alarms_up 1\n" in text and "alarms_journal_" in text, "the metrics are", text)
+    check("alarms_up 1\n" in text, "the metrics are", text)
     check(len(re.findall(r"(?m) \d+ +- +clock$", text)) >= 2, "the audit trail is", text)
     output("systemctl", "start", METRICS_UNIT)
-    run(blocks[2])
-    active(DEVICE_METRICS)
-    check(state_of(METRICS_UNIT) == "inactive", "beside the unit with the device there is", METRICS_UNIT)
-    await_true("the device's figures", lambda: b"alarms_device_damaged 0\n" in metrics())
-    check(re.search(rb"(?m)^alarms_journal_bytes [1-9]", metrics()), "its page is", metrics())
-    check(re.search(rb"(?m)^alarms_rows_denied 0$", metrics()), "its page is", metrics())
-    output("systemctl", "disable", "--now", DEVICE_METRICS)
-    output("systemctl", "enable", "--now", METRICS_UNIT)
+    device_page()
+
+
+def device_page():
+    """The timer's unit writes the page of the device for the node exporter, whose folder its package makes."""
+    folder = "/var/lib/prometheus/node-exporter"
+    os.makedirs(folder, exist_ok=True)
+    run(block_of("Watch", f"{DEVICE_METRICS}.timer"))
+    active(f"{DEVICE_METRICS}.timer")
+    output("systemctl", "start", DEVICE_METRICS)
+    path = f"{folder}/alarms_plant.prom"
+    with open(path, encoding="ascii") as file:
+        text = file.read()
+    check('alarms_device_damaged{plant="plant"} 0\n' in text, "the device's page is", text)
+    check(re.search(r'(?m)^alarms_journal_bytes\{plant="plant"\} [1-9]', text), "the device's page is", text)
+    check(os.stat(path).st_mode & 0o777 == 0o644, "nobody else reads the device's page")
+    output("systemctl", "disable", "--now", f"{DEVICE_METRICS}.timer")
 
 
 def killed():
@@ -321,7 +332,9 @@ def stays_down():
     """Without a device it isn't started; over a damaged one it isn't started again."""
     units = "/usr/lib/alarms/deploy/systemd"
     output(
-        "cp", *(f"{units}/{name}" for name in os.listdir(units) if name.endswith("@.service")), "/etc/systemd/system/"
+        "cp",
+        *(f"{units}/{name}" for name in os.listdir(units) if name.endswith(("@.service", "@.timer"))),
+        "/etc/systemd/system/",
     )
     output("systemctl", "daemon-reload")
     output("systemctl", "start", "alm_server@none")

@@ -1,19 +1,14 @@
-"""A plant that is followed by its server's lines alone, and rows of a device that are held against the server's.
-tests/tools/history.py runs this."""
+"""A plant that is followed by its server's lines alone. tests/tools/history.py runs this."""
 import random
 import threading
 from dataclasses import replace
 from typing import Callable
 
-from alarms.client import CLOCK, FEED, Client
+from alarms.client import Client
 from alarms.followed import FollowedPlant
-from alarms.known import known
-from alarms.metrics_rows import HeldRows
-from alarms.model import AlarmState
 from alarms.replies import Row
-from check_since import act
 from lib.drawn_plants import Hand, draw_plant, new_device
-from lib.program import PLANT, check
+from lib.program import check
 from lib.tools import Yard
 
 ALARMS = 12
@@ -99,35 +94,4 @@ def newest(plant: FollowedPlant) -> int:
     return max(asked.count for asked in [*plant.rows, *plant.floods])
 
 
-# Each field of an alarm that the server has too, and what is another value of it.
-FALSIFIED: dict[str, Callable[[AlarmState], object]] = {
-    "core": lambda alarm: setattr(alarm, "core", "RTNUN"),
-    "active": lambda alarm: setattr(alarm, "active", not alarm.active),
-    "flags": lambda alarm: setattr(alarm, "flags", alarm.flags ^ 2),
-    "stamp": lambda alarm: setattr(alarm, "stamp", alarm.stamp + 1),
-    "moments": lambda alarm: setattr(alarm, "moments", (*alarm.moments, 5)),
-    "priority": lambda alarm: setattr(alarm, "attributes", replace(alarm.attributes, priority=4)),
-    "setpoint": lambda alarm: setattr(alarm, "attributes", replace(alarm.attributes, setpoint=7)),
-}
-
-
-def denied(yard: Yard, _count: int) -> str:
-    """A row of a device's journal that isn't the server's is counted, whatever of it is wrong; and none that is."""
-    device = yard.format("denied.device", PLANT)
-    server = yard.serve(device)
-    act(server, (CLOCK, "CLOCK 1000"), (FEED, "VAL 0 800"), (3, "SHELVE 1 60"))
-    with Client.connect(server.port, 9) as client:
-        for name, falsify in FALSIFIED.items():
-            held = HeldRows(device)
-            held.look(3)
-            held.hold(client)
-            check(held.denied == 0, "of the true rows it denies", held.denied)
-            falsify(known(held.mirror).plant.alarms[0])
-            held.hold(client)
-            check(held.denied == 1, "of a wrong", name, "it denies", held.denied)
-            held.restart()
-    server.end()
-    return f"{len(FALSIFIED)} wrong rows"
-
-
-CHECKS = {"followed": followed, "denied": denied}
+CHECKS = {"followed": followed}

@@ -15,7 +15,7 @@ from alarms.client import CLOCK, FEED, PRIORITIES, Client
 from lib.places import DEPLOY, EXAMPLES
 from lib.program import check, free_ports
 from lib.server import Server
-from alarms.table_file import image_length, load_table
+from alarms.table_file import load_table
 from lib.tools import Yard, await_said, await_true, ended, start, started, stop
 from check_since import act
 
@@ -28,7 +28,7 @@ def metrics(yard: Yard) -> str:
     """What the exporter shows is what the server shows."""
     device = yard.format("metrics.device", REFINERY)
     server = yard.serve(device)
-    running = start("alm_metrics", "--port", server.port, "--listen", 0, "--device", device, "--table", REFINERY)
+    running = start("alm_metrics", "--port", server.port, "--listen", 0, "--table", REFINERY)
     address = await_said(running, "/metrics").split()[1]
     counts(address, {}, {})  # from here on
     with Client.connect(server.port, CLOCK) as clock, Client.connect(server.port, FEED) as feed, Client.connect(
@@ -45,7 +45,6 @@ def metrics(yard: Yard) -> str:
                 priority in (came[1].priority, came[5].priority)
             )
             holds(address, f'alarms_annunciated{{priority="{priority}",state="UNACK"}} {number}')
-        size = (16_777_216 - 23) // 2 - 25 - image_length(200, 8)
         holds(
             address,
             'alarms_annunciated{priority="1",state="ACKED"} 1',
@@ -59,9 +58,6 @@ def metrics(yard: Yard) -> str:
             'alarms_area_annunciations{area="0"} 12',
             'alarms_area_flooded{area="0"} 1',
             'alarms_area_flooded{area="7"} 0',
-            f"alarms_journal_size_bytes {size}",
-            "alarms_epoch 1",
-            f"alarms_journal_bytes {15 * 35}",
         )
         of_priority = collections.Counter(entry.priority for entry in came)
         counts(address, of_priority, {came[1].priority: 1})
@@ -122,7 +118,7 @@ def counts(address: str, annunciated: dict[int, int], acknowledged: dict[int, in
     """The exporter has counted so many by priority, and all of them."""
     for name, wanted in (("annunciations", annunciated), ("acknowledgements", acknowledged)):
         holds(address, *(f'alarms_{name}_total{{priority="{one}"}} {wanted.get(one, 0)}' for one in PRIORITIES))
-    holds(address, "alarms_uncounted_actions_total 0", "alarms_rows_denied 0")
+    holds(address, "alarms_uncounted_actions_total 0")
 
 
 def slot_taken(address: str, server: Server) -> None:
@@ -169,11 +165,14 @@ def scrape(address: str) -> str:
 
 def lint(address: str) -> str:
     """Prometheus' own tool takes it, where that is there."""
+    return taken(scrape(address))
+
+
+def taken(page: str) -> str:
+    """Prometheus' own tool takes a page, where that is there."""
     if not shutil.which("promtool"):
         return "no promtool"
-    run = subprocess.run(
-        ["promtool", "check", "metrics"], input=scrape(address), capture_output=True, text=True, timeout=60
-    )
+    run = subprocess.run(["promtool", "check", "metrics"], input=page, capture_output=True, text=True, timeout=60)
     check(run.returncode == 0 and not run.stdout + run.stderr, run.stdout, run.stderr)
     return "promtool"
 
@@ -193,8 +192,10 @@ tests:
       - {series: 'alarms_annunciated{priority="1",state="UNACK"}', values: '1x39 stale _x118 0x90 stale _x150'}
       - {series: 'alarms_annunciated{priority="2",state="UNACK"}', values: '1x39 stale _x118 0x90 stale _x150'}
       - {series: 'alarms_area_flooded{area="0"}', values: '1x39 stale _x118 0x90 stale _x150'}
-      - {series: 'alarms_device_damaged{half="1",at="4100"}', values: '0x339 1x19 0x40'}
-      - {series: 'alarms_rows_denied', values: '0x359 3x19 0x20'}
+      - {series: 'alarms_device_damaged{plant="north",half="1",at="4100"}', values: '0x339 1x19 0x40'}
+      - {series: 'up{job="node"}', values: '1x363 0x11 1x24'}
+      - {series: 'node_textfile_mtime_seconds{file="/var/lib/a/alarms_north.prom"}', values: '0+15x304 4560x29 5010+15x65'}
+      - {series: 'node_textfile_mtime_seconds{file="/var/lib/a/apt.prom"}', values: '0x399'}
       - {series: 'up{job="alarms-archive"}', values: '1x384 0x15'}
       - {series: 'alarms_archive_rows_denied', values: '0x319 2x15 0x60'}
       - {series: 'up{job="alarms-list"}', values: '1x187 0x11 1x199'}
@@ -217,8 +218,8 @@ ALERTS = {
     "AlarmSlotTaken": "",
     "AlarmClockStill": "",
     "AlarmMetricsGone": "job: alarms",
-    "AlarmDeviceDamaged": 'half: "1", at: "4100"',
-    "AlarmRowsDenied": "",
+    "AlarmDeviceDamaged": 'plant: north, half: "1", at: "4100"',
+    "AlarmDeviceUnread": "",
     "AlarmArchiveGone": "job: alarms-archive",
     "AlarmArchiveDenied": "",
     "AlarmListGone": "job: alarms-list",
@@ -245,8 +246,9 @@ FIRING = {
     "71m": "AlarmSlotTaken AlarmFeedSourcesSilent",
     "79m": "AlarmSlotTaken",
     "82m": "AlarmSlotTaken AlarmFeedBadValues AlarmArchiveDenied",
+    "83m": "AlarmSlotTaken AlarmFeedBadValues AlarmArchiveDenied AlarmDeviceUnread",
     "87m": "AlarmSlotTaken AlarmFeedBadValues AlarmDeviceDamaged",
-    "92m": "AlarmSlotTaken AlarmFeedBadValues AlarmRowsDenied",
+    "92m": "AlarmSlotTaken AlarmFeedBadValues AlarmDeviceUnread",
     "96m": "AlarmSlotTaken AlarmClockStill",
     "99m": "AlarmSlotTaken AlarmClockStill AlarmMetricsGone AlarmArchiveGone",
 }
@@ -291,7 +293,7 @@ def stops_at_another(yard: Yard, device: str) -> None:
         (None, PLANT, f"{PLANT}: the plant has more alarms than the table's 4"),
     ):
         server = yard.serve(device)
-        words = ("--port", server.port, "--listen", 0, "--table", table, "--device", device)
+        words = ("--port", server.port, "--listen", 0, "--table", table)
         running = start("alm_metrics", *words)
         address = await_said(running, "/metrics").split()[1]
         if path:
@@ -317,7 +319,7 @@ def dashboard(yard: Yard) -> str:
     device = yard.format("board.device", REFINERY)
     server = yard.serve(device)
     pages = (
-        start("alm_metrics", "--port", server.port, "--listen", 0, "--device", device),
+        start("alm_metrics", "--port", server.port, "--listen", 0),
         start("alm_feed", "--port", server.port, "--map", yard.write("map.csv", MAP), "--metrics", 0),
     )
     pages[1].stdin.write("a,3000\n")

@@ -12,7 +12,6 @@ import shutil
 import signal
 import sqlite3
 import subprocess
-import urllib.request
 from dataclasses import dataclass
 
 from lib.tools import Yard, await_said, await_true, start, tool
@@ -28,6 +27,8 @@ PAGE = DOCS / "DAMAGE.md"
 ALARM_TAG = 25
 # Places in a frame: its epoch, its number, its count, and the kind of its first action.
 EPOCH, NUMBER, COUNT, KIND = 1, 9, 17, 19
+# What the metrics of a whole device say.
+WHOLE = 'alarms_device_damaged{plant="watched"} 0\n'
 
 
 @dataclass(frozen=True)
@@ -134,7 +135,7 @@ def check_left(plant: Plant, damage: Damage, numbers: list[str]) -> None:
 
 
 class Watched:
-    """A served device, the exporter and the follower over it."""
+    """A served device, and the follower over it."""
 
     def __init__(self, yard: Yard):
         self.yard, self.device, self.moment = yard, yard.format("watched.device", PLANT), 0
@@ -144,8 +145,6 @@ class Watched:
             self.journal = start(
                 "alm_journal", self.device, "--from", 1, "--follow", "--port", self.server.port, stdout=trail
             )
-        exporter = start("alm_metrics", "--port", self.server.port, "--listen", 0, "--device", self.device)
-        self.address = await_said(exporter, "/metrics").split()[1]
 
     def act(self, count: int) -> None:
         with Client.connect(self.server.port, CLOCK) as clock:
@@ -154,8 +153,8 @@ class Watched:
                 clock.clock(self.moment)
 
     def page(self) -> str:
-        with urllib.request.urlopen(self.address, timeout=20) as page:
-            return page.read().decode()
+        """The metrics of the device."""
+        return tool("alm_check", self.device, "--metrics").stdout
 
     def flip(self, at: int, bit: int) -> None:
         """Changes a byte below the server."""
@@ -167,10 +166,10 @@ class Watched:
 
 
 def watched(yard: Yard, _step: int) -> str:
-    """Bytes change below a running server: exporter and alm_check say so, and no longer once they are put back."""
+    """Bytes change below a running server: alm_check says so, also as metrics, and no longer once they are put back."""
     plant = Watched(yard)
     await_true("the trail", lambda: yard.read("trail").endswith("20 CLOCK 20\n"))
-    check("alarms_device_damaged 0\n" in plant.page(), "of a whole device the exporter says", plant.page())
+    check(WHOLE in plant.page(), "of a whole device its metrics are", plant.page())
     at = gates(content_of(plant.device))[-1][0]
     plant.act(3)
     await_true("the trail", lambda: yard.read("trail").endswith("23 CLOCK 23\n"))
@@ -183,20 +182,12 @@ def watched(yard: Yard, _step: int) -> str:
 def judge_watched(plant: Watched, at: int, field: str, bit: int) -> None:
     """Changes a byte, sees that it is told, and puts it back."""
     plant.flip(at, bit)
-    await_true(
-        f"a page that tells of the {field}", lambda: f'alarms_device_damaged{{half="0",at="{at}"}} 1\n' in plant.page()
-    )
-    check(
-        "alarms_up 1\n" in plant.page() and "alarms_journal_bytes " in plant.page(),
-        "of",
-        field,
-        "the exporter says",
-        plant.page(),
-    )
+    page, told = plant.page(), f'alarms_device_damaged{{plant="watched",half="0",at="{at}"}} 1\n'
+    check(told in page and "\nalarms_journal_bytes{" in page, "of", field, "the metrics are", page)
     run = tool("alm_check", plant.device)
     check(run.returncode == 1 and f"at byte {at}: {field}" in run.stdout, "of", field, "alm_check says", run)
     plant.flip(at, bit)
-    await_true("a page of a whole device", lambda: "alarms_device_damaged 0\n" in plant.page())
+    check(WHOLE in plant.page(), "behind", field, "the metrics are", plant.page())
 
 
 def healed(yard: Yard, _step: int) -> str:

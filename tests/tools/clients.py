@@ -25,6 +25,7 @@ from lib.tools import Yard, end_all, tool
 import check_clock
 import check_console
 import check_consoles
+import check_device_metrics
 import check_feed
 import check_journal
 import check_metrics
@@ -106,14 +107,11 @@ def units(yard: Yard) -> str:
         )
     if not shutil.which("systemd-analyze"):
         return "no systemd: units left out"
-    names = sorted(path.name for path in (DEPLOY / "systemd").glob("*.service"))
+    names = sorted(path.name for kind in ("service", "timer") for path in (DEPLOY / "systemd").glob(f"*.{kind}"))
     for name in names:
         text = (DEPLOY / "systemd" / name).read_text(encoding="utf-8")
-        check(
-            "/opt/" not in text and VERSION not in text and "StartLimitIntervalSec=0" in text,
-            name,
-            "is of one version, or gives up",
-        )
+        goes_on = "StartLimitIntervalSec=0" in text or name.endswith("timer")
+        check("/opt/" not in text and VERSION not in text and goes_on, name, "is of one version, or gives up")
         text = re.sub(r"(?m)^(Exec\w+=)alm_server\b", rf"\g<1>{yard.program}", text)
         yard.write(name, re.sub(r"(?m)^(Exec\w+=)(alm_\w+)", rf"\g<1>{TOOLS}/\g<2>", text))
     for name in names:  # once all are there, since one may require another
@@ -140,6 +138,9 @@ CHECKS: dict[str, Callable[[Yard, int], str]] = {
     "takeover": lambda yard, _: check_feed.takeover(yard),
     "metrics": lambda yard, _: check_metrics.metrics(yard),
     "counters": lambda yard, _: check_metrics.without_device(yard),
+    "device_page": lambda yard, _: check_device_metrics.page(yard),
+    "while_written": lambda yard, step: check_device_metrics.while_written(yard, 600 // step),
+    "collected": lambda yard, _: check_device_metrics.collected(yard),
     "rules": lambda yard, _: check_metrics.rules(yard),
     "dashboard": lambda yard, _: check_metrics.dashboard(yard),
     "journal": lambda yard, step: check_journal.journal(yard, 3000 // step),

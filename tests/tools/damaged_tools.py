@@ -3,6 +3,7 @@ anything up."""
 import contextlib
 import io
 import os
+import re
 import sqlite3
 import sys
 from typing import Callable, Optional
@@ -12,7 +13,6 @@ from lib.tools import Yard
 
 from alarms import check as check_tool
 from alarms import journal
-from alarms import metrics
 from alarms import salvage
 from alarms import archive, mirror
 from alarms.judging import Reading
@@ -59,19 +59,12 @@ def look_all(yard: Yard, path: str, reading: Optional[Reading], whole: Rows) -> 
         check(status == int(wrong), main.__module__, words, "ends with", status, printed[-200:], said)
         check(not wrong or main is check_tool.main or path in said, main.__module__, "says", said)
     check(ended(salvage.main, path, "--table")[0] in (0, 1), "salvage")
-    page = "".join(f"{line}\n" for line in metric_lines(path))
-    check(reading is None or ("alarms_device_damaged 0\n" in page) != wrong, "metrics", page)
+    status, page, said = ended(check_tool.main, path, "--metrics")
+    check(status == int(not page) and len(said.splitlines()) == status, "metrics end with", status, page, said)
+    is_told_whole = re.search(r"(?m)^alarms_device_damaged\S* 0$", page) is not None
+    check(reading is None or is_told_whole != wrong, "metrics", page)
     wanted = reading.judged.count if reading and not wrong else None
     judge_archive(*archived(yard, path), whole, wanted)
-
-
-def metric_lines(path: str) -> list[str]:
-    """What the exporter shows of a device."""
-    lines: list[str] = []
-    for part in (metrics.Soundness(path).lines(), metrics.journal(path)):
-        with contextlib.suppress(metrics.NoDevice):
-            lines += part
-    return lines
 
 
 def archived(yard: Yard, path: str) -> tuple[int, str, Rows]:

@@ -39,8 +39,10 @@ ASKED = {"metrics --port P --listen 0": "/metrics", "browser --port P --listen 0
 # The same, of those that nobody asks.
 LEFT = "console --port P; alertmanager --port P --to http://127.0.0.1:9"
 # Commands that open the device.
-BY_FILE = "check DEVICE; salvage DEVICE --table; uncache DEVICE; journal DEVICE; mirror DEVICE --port P"
-BY_FILE_ASKED = {"metrics --port P --listen 0 --device DEVICE": "/metrics"}
+BY_FILE = (
+    "check DEVICE; check DEVICE --metrics; salvage DEVICE --table; uncache DEVICE; journal DEVICE;"
+    " mirror DEVICE --port P"
+)
 # Both, of a device that isn't served.
 STOPPED, CHANGED = "archive run DEVICE OTHER --stopped", "change_table DEVICE TABLE --program PROGRAM"
 # What TOOLS names besides: the program opens the device for the one, and the other asks for its size alone.
@@ -121,7 +123,6 @@ def tried(site: Site) -> int:
     lines |= {way: site.try_way(way, runs_on=True) for way in listed(LEFT)}
     named, site.ways = site.ways, set()
     files = {way: site.try_way(way) for way in listed(BY_FILE)}
-    files |= {way: site.ask(way, text) for way, text in BY_FILE_ASKED.items()}
     server.end()
     files[STOPPED] = site.try_way(STOPPED)
     by_file, site.ways = site.ways, named

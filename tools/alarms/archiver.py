@@ -276,8 +276,8 @@ class Archiver:
         return step.number < self.plant.last or self.settle()
 
     def settle(self) -> bool:
-        """The device has all that is archived, so it is that plant, and the file is its file. Where no action is archived
-        that could be compared, its moment is that of the plant, and it isn't another file."""
+        """The device has all that is archived, so it is that plant, and the file is its file. Where no archived action
+        could be compared, its moment is that of the plant, and it isn't another file."""
         self.held = None
         if not self.compared and (self.is_other_file(self.plant) or self.model.now != self.plant.moment):
             return self.restart()

@@ -1,6 +1,7 @@
 """Says whether the bytes of a device are damaged, and what is whole before the damage.
 
     alm_check DEVICE
+    alm_check DEVICE --metrics      the same as metrics, for the textfile collector of Prometheus' node exporter
 
 DEVICE may be a copy, or one that a server has open: it is read without the lock, and nothing is written. Every field
 that a server reads as it opens a device is held against its rule in docs/develop/FORMAT.md, and each action is done
@@ -14,12 +15,20 @@ The format has no checksum. Damage that leaves each rule kept isn't seen, as ano
 last frame.
 
 Status 0: nothing is wrong. 1: the lines say what is.
+
+With --metrics it prints `alarms_device_damaged`: 1 for each place that is damaged, with its half, else 0; and how many
+bytes of the journal are used, how many it has, and the epoch, which grows by one with each checkpoint. Each has the
+label `plant`: the file's name without its ending. Status 0 says that these are all; of a file that is no device nothing
+is printed.
 """
+import argparse
+import sys
 from typing import Iterator, Optional
 
 from .arguments import Parser
 from .ending import end_of
 from .device_file import Damaged, DeviceFile
+from .device_metrics import page
 from .judging import Judged, Reading, judge, read_device
 
 
@@ -59,8 +68,12 @@ def other_lines(path: str, standing: Optional[Judged]) -> Iterator[str]:
         device.close()
 
 
-def check(path: str) -> int:
-    """Says whether a device is whole; the status."""
+def check(chosen: argparse.Namespace) -> int:
+    """Says whether a device is whole, in lines or as metrics; the status."""
+    path = chosen.device
+    if chosen.metrics:
+        sys.stdout.write(page(path))
+        return 0
     reading = read_device(path)
     if reading.place is None and reading.judged is not None:
         print(f"{path} is whole: {stands_for(reading.judged)}")
@@ -72,8 +85,9 @@ def check(path: str) -> int:
 def main() -> None:
     words = Parser("alm_check", __doc__)
     words.add_argument("device", metavar="DEVICE", help="the device file, or a copy of it")
+    words.add_argument("--metrics", action="store_true", help="print metrics in Prometheus' format, once")
     chosen = words.parse_args()
-    end_of("check", lambda: check(chosen.device))
+    end_of("check", lambda: check(chosen))
 
 
 if __name__ == "__main__":

@@ -1,6 +1,6 @@
 """An exporter of what a server shows, in the text format that Prometheus reads.
 
-    alm_metrics --port P [--listen 9464] [--slot 15] [--device DEVICE] [--table TABLE.toml]
+    alm_metrics --port P [--listen 9464] [--slot 15] [--table TABLE.toml]
 
 It listens on loopback alone, at http://127.0.0.1:9464/metrics. Each time that it is read it asks the server at a
 console's slot, by queries alone, and lets the slot go. Where the server doesn't answer, `alarms_up` is 0 and nothing
@@ -8,11 +8,8 @@ else of the plant is there. Where it answers at another slot, another client has
 `alarms_slot_taken` too, and of the plant is there what one query shows.
 
 There are counters too, of annunciations and acknowledgements by priority: those since the exporter began. They go on
-by SINCE, so they need no device. `alarms_uncounted_actions_total` counts what the server no longer remembered by then.
-
-With --device it also reads, from the file, what no line tells: how full the journal is, and the epoch, which grows by
-one with each checkpoint. `alarms_device_damaged` is 1 where bytes of it are damaged, with the half and the place, else
-0. `alarms_rows_denied` is how many alarms have another row by the journal than the server shows.
+by SINCE. `alarms_uncounted_actions_total` counts what the server no longer remembered by then. What the device's file
+alone shows, as how full the journal is, `alm_check DEVICE --metrics` prints.
 
 With --table it reads the table file each time, and ends with status 1 where the plant isn't that file's, or is on
 another device than before.
@@ -27,12 +24,10 @@ from typing import Iterable, Iterator, Optional
 from .client import CONSOLES, PRIORITIES, Client, Lost, NoAnswer, Overview, OtherPlant, Plant, Refused
 from .arguments import add_port, add_slot, add_table, listen_port, new_parser
 from .connecting import HOST
-from .device_file import Damaged, DeviceFile, Head, NoDevice
 from .ending import end_of, sayer
 from .table_file import NoTable
-from .judging import Reading, read_device
+from .metric_lines import metric
 from .metrics_counts import Tally
-from .metrics_rows import DENIED, DENIED_PAGE, HeldRows
 
 # Seconds after which a client that says nothing is left.
 SILENCE = 10
@@ -42,14 +37,6 @@ BRIEFLY = 0.1
 STATES = ("UNACK", "ACKED", "RTNUN", "LATUN", "LATAK")
 
 say = sayer("metrics")
-
-
-def metric(name: str, kind: str, page: str, samples: dict[str, float]) -> Iterator[str]:
-    """The lines of a metric: its samples by their labels."""
-    yield f"# HELP {name} {page}"
-    yield f"# TYPE {name} {kind}"
-    for labels, value in samples.items():
-        yield f"{name}{labels} {value:g}" if isinstance(value, float) else f"{name}{labels} {value}"
 
 
 def annunciated(client: Client) -> dict[str, float]:
@@ -121,59 +108,12 @@ def at_another_slot(plant: Plant) -> Optional[tuple[Overview, float]]:
     return None
 
 
-def journal(path: str) -> Iterator[str]:
-    """What the device file shows of its journal."""
-    device = DeviceFile(path)
-    try:
-        head = device.standing()
-        used = used_bytes(device, head)
-    finally:
-        device.close()
-    yield from metric("alarms_journal_bytes", "gauge", "Used bytes of the journal.", {"": used})
-    yield from metric("alarms_journal_size_bytes", "gauge", "Bytes of the journal.", {"": device.segment})
-    yield from metric("alarms_epoch", "gauge", "Epoch of the device: checkpoints and the formatting.", {"": head.epoch})
-
-
-def used_bytes(device: DeviceFile, head: Head) -> int:
-    """How many bytes of a journal the frames take, up to its first damage."""
-    used = 0
-    try:
-        for frame in device.frames(head):
-            used = frame.end
-    except Damaged:
-        pass
-    return used
-
-
-class Soundness:
-    """Whether a device is damaged. It is read again only once ten times as long has passed as that takes."""
-
-    def __init__(self, path: str):
-        self.path, self.due = path, 0.0
-
-    def read(self) -> Reading:
-        began = time.monotonic()
-        if began >= self.due:
-            self.reading = read_device(self.path)
-            self.due = began + 10 * (time.monotonic() - began)
-        return self.reading
-
-    def lines(self) -> Iterator[str]:
-        """1 for each place that is damaged, else 0."""
-        places = {f'{{half="{wrong.half}",at="{wrong.at}"}}': 1.0 for wrong in self.read().wrong()}
-        yield from metric(
-            "alarms_device_damaged", "gauge", "Whether bytes of the device are damaged, and where.", places or {"": 0}
-        )
-
-
 class Exporter(http.server.ThreadingHTTPServer):
     """Answers /metrics. Each client has a thread, and the plant is asked for one after the other."""
 
-    def __init__(self, listen: int, plant: Plant, device: Optional[str]):
+    def __init__(self, listen: int, plant: Plant):
         super().__init__((HOST, listen), Handler)
-        self.plant, self.device = plant, device
-        self.tally = Tally()
-        self.soundness, self.held_rows = (Soundness(device), HeldRows(device)) if device else (None, None)
+        self.plant, self.tally = plant, Tally()
         self.asking = threading.Lock()
         self.moment, self.moved = -1, 0.0
         self.fault: Optional[Exception] = None
@@ -183,11 +123,6 @@ class Exporter(http.server.ThreadingHTTPServer):
         with self.asking:
             lines, up, taken = self.plant_lines()
             lines += self.counters()
-        for of_device in (self.soundness.lines(), journal(self.device)) if self.soundness and self.device else ():
-            try:
-                lines += of_device
-            except (NoDevice, OSError):
-                pass
         head = [
             *metric("alarms_up", "gauge", "Whether the server answers.", {"": up}),
             *metric(
@@ -205,22 +140,12 @@ class Exporter(http.server.ThreadingHTTPServer):
             with self.plant.connect() as client:
                 plant = client.plant()
                 self.tally.look(client, plant.count)
-                return [*shown(client), *self.still(plant.moment), *self.held(client, plant.count)], 1, 0
+                return [*shown(client), *self.still(plant.moment)], 1, 0
         except NoAnswer:
             found = at_another_slot(self.plant)
             return ([*of_query(*found), *self.still(found[0].moment)], 1, 1) if found else ([], 0, 0)
         except (Lost, Refused):
             return [], 0, 0
-
-    def held(self, client: Client, count: int) -> Iterator[str]:
-        """Holds rows of the device's plant against those that the server shows; a server of before ROW shows none."""
-        if self.held_rows:
-            try:
-                self.held_rows.look(count)
-                self.held_rows.hold(client)
-            except Refused:
-                return
-            yield from metric(DENIED, "gauge", DENIED_PAGE, {"": self.held_rows.denied})
 
     def counters(self) -> Iterator[str]:
         """What was counted so far."""
@@ -272,7 +197,7 @@ class Handler(http.server.BaseHTTPRequestHandler):
 
 def show(chosen: argparse.Namespace) -> None:
     """Shows a plant until it is ended, or until the plant isn't the table's."""
-    exporter = Exporter(chosen.listen, Plant(chosen.port, chosen.slot, chosen.table, names=False), chosen.device)
+    exporter = Exporter(chosen.listen, Plant(chosen.port, chosen.slot, chosen.table, names=False))
     say(f"http://{HOST}:{exporter.server_port}/metrics")
     exporter.serve_forever()
     if exporter.fault:
@@ -290,9 +215,11 @@ def main() -> None:
         help="the port of this exporter, on loopback; 0 for any that is free",
     )
     add_slot(words, 15)
-    words.add_argument("--device", help="the device file, for the journal")
+    words.add_argument("--device", help=argparse.SUPPRESS)
     add_table(words)
     chosen = words.parse_args()
+    if chosen.device is not None:
+        words.error("metrics of a device's file are printed by alm_check DEVICE --metrics, once each time")
     end_of("metrics", lambda: show(chosen), interrupted=0)
 
 

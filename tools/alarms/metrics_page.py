@@ -4,13 +4,12 @@ import threading
 from typing import Callable, Iterable, Iterator
 
 from .connecting import HOST
+from .metric_lines import label
 
 # Seconds after which a client of the page is left.
 SILENCE = 10
 # Name, kind, page and value of a metric; of several plants the value of each, by its name.
 Metric = tuple[str, str, str, float | dict[str, float]]
-# How a name stands in a label.
-ESCAPED = str.maketrans({"\\": r"\\", '"': r"\"", "\n": r"\n"})
 
 
 def page_of(metrics: Iterable[Metric]) -> str:
@@ -26,7 +25,7 @@ def lines_of(name: str, kind: str, page: str, value: float | dict[str, float]) -
         yield f"{name} {number(value)}"
         return
     for plant, sample in value.items():
-        yield f'{name}{{plant="{plant.translate(ESCAPED)}"}} {number(sample)}'
+        yield f'{name}{{{label("plant", plant)}}} {number(sample)}'
 
 
 def number(value: float) -> str:
