@@ -2,17 +2,23 @@
 import collections
 import os
 import random
+import re
 import shutil
 import subprocess
+import threading
 
 from lib.drawn_plants import CONSOLE, WORDS, Hand, draw_plant, module, new_device
 from alarms.client import CLOCK, Client
-from alarms.mirror import Follower, Served
+from alarms.line_follower import shown_by_lines
+from alarms.mirror import Follower
+from alarms.served import Served
+from alarms.table_file import Table
 from alarms.plant_mirror import Begun, Gap, Mirror, Replaced, Step
 from alarms.model import SHELVED, AlarmState
 from lib.places import AT_TOOLS, EXAMPLES
 from lib.program import check
 from lib.tools import Yard, await_true
+from slow_count import SLOTS
 
 SLOT = 13
 EARLIER = str(EXAMPLES / "earlier_release" / "plant.device")
@@ -154,8 +160,19 @@ def compare(yard: Yard, device: str, followed: Mirror) -> str:
     return shown
 
 
+def run_mirror(*words: object) -> subprocess.CompletedProcess:
+    """alm_mirror, to its end."""
+    return subprocess.run(module("mirror", *words), env=AT_TOOLS, capture_output=True, text=True, timeout=60)
+
+
+def without_epoch(shown: str) -> str:
+    """What the program shows of a device, as far as a line tells it."""
+    return re.sub(r" EPOCH \d+\n", " EPOCH -\n", shown, count=1)
+
+
 def tool_shows(yard: Yard, _count: int) -> str:
-    """alm_mirror prints what the program does, of a served plant; and ends by one line if it can't."""
+    """alm_mirror prints what the program does, of a served plant by its lines and of a device file; and ends by one
+    line if it can't."""
     table = draw_plant(random.Random(8), 12, 3)
     device = new_device(yard, "tool", table)
     server = yard.serve(device)
@@ -163,62 +180,65 @@ def tool_shows(yard: Yard, _count: int) -> str:
     hand.connect(server)
     hand.ask(300)
     hand.leave()
-    served = subprocess.run(
-        module("mirror", device, "--port", server.port), env=AT_TOOLS, capture_output=True, text=True, timeout=60
-    )
-    other = new_device(yard, "other", table)
-    yard.run("desk", other, lines="".join(f"17 {moment} CLOCK {moment}\n" for moment in range(1, 301)))
-    wrong = subprocess.run(
-        module("mirror", other, "--port", server.port), env=AT_TOOLS, capture_output=True, text=True, timeout=60
-    )
+    served = run_mirror("--port", server.port)
+    other_device(yard, table, server.port)
     server.end()
-    check(
-        served.returncode == 0 and served.stderr == "" and served.stdout == yard.run("show", device),
-        served.stdout,
-        served.stderr,
-    )
-    check(
-        wrong.returncode == 1
-        and wrong.stdout == ""
-        and wrong.stderr.count("\n") == 1
-        and "is it the server's device?" in wrong.stderr,
-        wrong.stderr,
-    )
+    wanted = without_epoch(yard.run("show", device))
+    check((served.returncode, served.stderr, served.stdout) == (0, "", wanted), "of a served plant it shows", served)
     for old in (shutil.copyfile(EARLIER, yard.path("earlier")), shutil.copyfile(EARLIER, yard.path("went_on"))):
         if old.endswith("went_on"):
             yard.run("desk", old, lines="0 1 PRIO 0 2\n")
-        run = subprocess.run(module("mirror", old), env=AT_TOOLS, capture_output=True, text=True, timeout=60)
-        check(
-            run.stdout == yard.run("show", old),
-            "of a device that an earlier release wrote it shows",
-            run.stdout,
-            run.stderr,
-        )
+        run = run_mirror(old)
+        check(run.stdout == yard.run("show", old), "of a device that an earlier release wrote it shows", run)
     for words, status, said in (
         (("--port", server.port), 1, "Connection refused"),
-        (("--slot", 99), 2, "invalid choice"),
-        ((), 0, "may be ahead"),
+        ((device, "--slot", 99), 2, "invalid choice"),
+        ((device, "--port", server.port), 2, "is shown without its DEVICE"),
+        ((), 2, "is required"),
+        ((device,), 0, "may be ahead"),
+        ((yard.path("none"),), 1, "No such file"),
+        ((yard.write("text", "no device" * 9),), 1, "isn't formatted"),
+        ((yard.folder,), 1, "directory"),
     ):
-        run = subprocess.run(module("mirror", device, *words), env=AT_TOOLS, capture_output=True, text=True, timeout=60)
-        check(
-            run.returncode == status and said in run.stderr and "Traceback" not in run.stderr,
-            words,
-            run.returncode,
-            run.stderr,
-        )
-    for path, said in (
-        (yard.path("none"), "No such file"),
-        (yard.write("text", "no device" * 9), "isn't formatted"),
-        (yard.folder, "directory"),
-    ):
-        run = subprocess.run(module("mirror", path), env=AT_TOOLS, capture_output=True, text=True, timeout=60)
-        check(
-            run.returncode == 1 and said in run.stderr and "Traceback" not in run.stderr,
-            path,
-            run.returncode,
-            run.stderr,
-        )
+        run = run_mirror(*words)
+        is_line = run.stderr.count("\n") == 1 and said in run.stderr and "Traceback" not in run.stderr
+        check(run.returncode == status and is_line and bool(run.stdout) == (status == 0), words, run)
     return "alm_mirror"
+
+
+def other_device(yard: Yard, table: Table, port: int) -> None:
+    """A follower that is given the device of another plant than the server's says so, and gives nothing."""
+    other, said = new_device(yard, "other", table), list[str]()
+    yard.run("desk", other, lines="".join(f"17 {moment} CLOCK {moment}\n" for moment in range(1, 301)))
+    with Follower(other, Served(port, SLOT, lambda *words: said.append(" ".join(map(str, words))))) as follower:
+        check(list(follower.look()) == [], "of another device there is news")
+    check(len(said) == 1 and "is it the server's device?" in said[0], "of another device it says", said)
+
+
+def moving(yard: Yard, count: int) -> str:
+    """What alm_mirror prints of a plant that moves is what the program shows of a device with the actions up to that
+    count, and no others."""
+    dice = random.Random(16)
+    table = draw_plant(dice, 12, 3, 400_000)
+    server, hand = yard.serve(new_device(yard, "moving", table)), Hand(dice, table)
+    hand.connect(server)
+    asking = threading.Thread(target=lambda: [hand.ask(5) for _ in range(max(120, count // 20))])
+    asking.start()
+    printed = list[str]()
+    while asking.is_alive():
+        printed.append(shown_by_lines(server.port, SLOT))
+    hand.leave()
+    server.end()
+    counts = {int(text.split()[3]): text for text in printed}
+    for number in dice.sample(sorted(counts), min(100, len(counts))):
+        fresh = new_device(yard, f"fresh{number}", table)
+        requests = [hand.accepted[one] for one in range(1, number + 1)]
+        lines = [f"{SLOTS.get(request.split()[0], 0)} {at} {request}\n" for at, request in enumerate(requests, 1)]
+        yard.run("desk", fresh, lines="".join(lines))
+        wanted = without_epoch(yard.run("show", fresh))
+        check(counts[number] == wanted, "at", number, "it shows", counts[number], "and the program", wanted)
+    check(len(counts) > 3, "the plant didn't move", len(counts))
+    return f"a plant at {len(counts)} of {len(hand.accepted)} counts"
 
 
 def held_up(yard: Yard, count: int) -> str:
@@ -339,4 +359,11 @@ def put_in_place(yard: Yard, device: str, table: object, number: int) -> None:
         os.replace(fresh, device)
 
 
-CHECKS = {"drawn": drawn, "mirror_tool": tool_shows, "held": held_up, "crowded": crowded, "another": another}
+CHECKS = {
+    "drawn": drawn,
+    "mirror_tool": tool_shows,
+    "moving": moving,
+    "held": held_up,
+    "crowded": crowded,
+    "another": another,
+}

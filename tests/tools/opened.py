@@ -32,7 +32,8 @@ sys.addaudithook(note)
 ARCHIVED = "archive run ARCHIVE --port P --once --name plant"
 BY_LINES = (
     f"await_server --port P; clock --port P --seconds 1; {ARCHIVED}; feed --port P; {ARCHIVED}; archive list ARCHIVE;"
-    " reports ARCHIVE; export --port P; export --port P --device DEVICE; csv2toml SHEET"
+    " reports ARCHIVE; export --port P; export --port P --device DEVICE; mirror --port P;"
+    " csv2toml SHEET"
 )
 # The same, of those that run on: what they say once they can be asked, with their address.
 ASKED = {"metrics --port P --listen 0": "/metrics", "browser --port P --listen 0": "/?token="}
@@ -40,8 +41,7 @@ ASKED = {"metrics --port P --listen 0": "/metrics", "browser --port P --listen 0
 LEFT = "console --port P; alertmanager --port P --to http://127.0.0.1:9"
 # Commands that open the device.
 BY_FILE = (
-    "check DEVICE; check DEVICE --metrics; salvage DEVICE --table; uncache DEVICE; journal DEVICE;"
-    " mirror DEVICE --port P"
+    "check DEVICE; check DEVICE --metrics; salvage DEVICE --table; uncache DEVICE; journal DEVICE;" " mirror DEVICE"
 )
 # Both, of a device that isn't served.
 STOPPED, CHANGED = "archive run DEVICE OTHER --stopped", "change_table DEVICE TABLE --program PROGRAM"

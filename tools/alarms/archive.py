@@ -41,7 +41,8 @@ from .device_file import Damaged, NoDevice
 from .judging import read_once
 from .line_follower import LineFollower
 from .metrics_page import show_page
-from .mirror import Follower, Served
+from .mirror import Follower
+from .served import Served
 from .store import Store, is_there
 from .upkeep import list_plants, prune
 from .moments import moment_of

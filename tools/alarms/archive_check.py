@@ -8,7 +8,7 @@ from typing import Iterable, Iterator
 
 from .client import Lost, OtherPlant, Refused
 from .ending import sayer
-from .mirror import Served
+from .served import Served
 from .model import PlantModel
 from .row_check import Difference, RowCheck
 from .store import Store

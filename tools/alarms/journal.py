@@ -31,8 +31,9 @@ from .actions import in_words
 from .device_file import Damaged, DeviceFile, Frame, Head, NoDevice
 from .table_file import TableFile
 from .judging import Reading, read_device
-from .mirror import Follower, Served
+from .mirror import Follower
 from .plant_mirror import Begun, Gap, Mirror, Replaced, Step
+from .served import Served
 
 PAUSE = 0.1
 

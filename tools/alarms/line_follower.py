@@ -1,4 +1,4 @@
-"""The plant of a served device by its server's lines alone, for an archive without the device.
+"""The plant of a served device by its server's lines alone, for an archive, and for alm_mirror.
 
 It begins with the plant as it was archived, where the server remembers each action since, and else with the rows as
 they are. Each action of SINCE is played on a model of the plant from there on. What the server no longer remembers is a
@@ -8,10 +8,10 @@ import collections
 from dataclasses import dataclass, field
 from typing import Callable, Iterator, Optional
 
-from .client import Client, Flood, Lost, OtherPlant, Place, Refusal, Refused
+from .client import Client, Flood, Lost, OtherPlant, Place, Plant, Refusal, Refused
 from .device_file import NoDevice
 from .known import known
-from .mirror import Served
+from .served import Served
 from .model import UNKNOWN_STAMP, AlarmState, AreaWindow, FloodChange, PlantModel
 from .plant_mirror import Begun, Gap, News, Replaced, Step
 from .replies import Entry
@@ -22,6 +22,8 @@ LINES = "lines"
 # So many actions that are known already are asked again at a new connection: where they are others, the plant is
 # another one.
 AGAIN = 256
+# So often a plant that moves is asked again, until all that is asked is of one count.
+TURNS = 100
 # The plant of a table as it was archived, behind the action before this number or a later one; none where the archive
 # hasn't each action up to there.
 Kept = Callable[[Table, int], Optional[PlantModel]]
@@ -198,3 +200,23 @@ class LineFollower:
             if refused.refusal != Refusal.FORGOTTEN:
                 raise
             return None
+
+
+def shown_by_lines(place: Place, slot: int) -> str:
+    """What `show` prints of a served plant, but for the epoch. `Lost` says that there is no server, or that its plant
+    moves too fast."""
+    asked = Plant(place, slot)
+    with asked.connect() as client:
+        mirror = LineMirror.of_rows(client, asked.table)
+        for _ in range(TURNS):
+            for entry in client.entries(mirror.count):
+                mirror.step(entry)
+            # an annunciation that was played has no stamp of the server's yet
+            unknown = [alarm for alarm in mirror.plant.alarms if alarm.stamp < 0 and alarm.core != "NORM"]
+            floods, rows = client.floods(asked.table.areas), client.rows([alarm.number for alarm in unknown])
+            if all(told.count == mirror.count for told in (*floods, *rows)):
+                mirror.take_floods(floods)
+                for alarm, row in zip(unknown, rows):
+                    alarm.stamp = row.stamp
+                return mirror.plant.show()
+    raise Lost("the plant moves faster than all of it can be asked: try again")

@@ -287,9 +287,12 @@ class PlantModel:
     def switch(self, alarm: AlarmState, bit: int, on: int) -> bool:
         return self.release(alarm, bit) if not on else bool(self.suppress(alarm, bit))
 
-    def show(self, epoch: int) -> str:
-        """What `alm_server show` prints of a device of this plant."""
-        lines = [f"NOW {self.now} COUNT {self.count} EPOCH {epoch}", *(alarm.line() for alarm in self.alarms)]
+    def show(self, epoch: Optional[int] = None) -> str:
+        """What `alm_server show` prints of a device of this plant; `-` for an epoch that isn't known."""
+        lines = [
+            f"NOW {self.now} COUNT {self.count} EPOCH {'-' if epoch is None else epoch}",
+            *(alarm.line() for alarm in self.alarms),
+        ]
         listed = sorted((alarm for alarm in self.alarms if alarm.core != "NORM"), key=lambda alarm: alarm.stamp)
         for priority in range(1, 5):
             lines.append(listing("P", priority, (alarm for alarm in listed if alarm.attributes.priority == priority)))
