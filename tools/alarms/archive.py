@@ -150,7 +150,9 @@ def arguments() -> Parser:
     command.add_argument("--stopped", action="store_true", help="the device isn't served: archive it up to its end")
     command.add_argument("--existing", action="store_true", help="with --stopped: do nothing where there is no archive")
     command.add_argument(
-        "--name", metavar="PLANT", help="the plant's name in the archive; the device file's where it is left out"
+        "--name",
+        metavar="PLANT",
+        help="the plant's name in the archive; else that of the device file, the port or the folder",
     )
     command.add_argument(
         "--metrics",
