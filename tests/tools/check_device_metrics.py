@@ -131,6 +131,7 @@ def collected(yard: Yard) -> str:
                 return status
         return 0
 
+    yard.write("collected/alarms_plant.new", "what a run that was ended left\n" * 99)
     watched = watch(final, seen)
     with Writing(yard, "plant") as written:
         for _ in range(5):
@@ -153,6 +154,10 @@ def watch(path: str, seen: set[str]) -> Callable[[], None]:
                 with open(path, encoding="ascii") as file:
                     seen.add(file.read())
 
+    def end() -> None:
+        ended.set()
+        thread.join()
+
     thread = threading.Thread(target=read, daemon=True)
     thread.start()
-    return lambda: (ended.set(), thread.join())[1]
+    return end
