@@ -22,20 +22,22 @@ from lib.tools import Yard, await_said, await_true, start, stop, tool, toml
 PLANT = str(EXAMPLES / "plant.toml")
 SLOW = os.path.join(TESTS, "..", "bench", "serve", "sync.c")  # syncs that take their time
 SYNC = 1.5
-# Bytes of a segment that 3,000 lone actions fill beyond its half once, and no second time: so a follower that is held
-# up misses nothing.
+# Bytes of a segment that 3,000 lone actions fill beyond its half once.
 SEGMENT = 150_000
+# How many actions a server remembers, and what a trail says of one that it doesn't.
+REMEMBERED, FORGOTTEN = 65_536, "not remembered by the server"
 # So many actions, each a frame of its own, are several checkpoints of the worked plant.
 LONG = 230
 
 
 def journal(yard: Yard, count: int) -> str:
-    """The journal of a served device, as the server numbered its actions, across a checkpoint."""
+    """The actions of a served plant by its lines, as the server numbered them and with who asked, across a checkpoint;
+    and how full the device's journal is meanwhile."""
     device = yard.format(
         "journal.device", yard.write("journal.toml", toml(replace(load_table(PLANT), size=device_size(4, 2, SEGMENT))))
     )
     server = yard.serve(device)
-    running, file = followed(yard, device, "--port", server.port)
+    running, file = followed(yard, "--port", server.port)
     await_said(running, "journal: from action 1 on\n")
     wanted = act(server, count)
     await_true("the last action", lambda: yard.read("followed").endswith(wanted[-1] + "\n"))
@@ -43,7 +45,17 @@ def journal(yard: Yard, count: int) -> str:
     _, said = running.communicate(timeout=60)
     file.close()
     lines = yard.read("followed").splitlines()
-    check(lines == wanted and said == "", "followed", lines[:3], "..", lines[-3:], said)
+    check(lines == wanted and said == "" and running.returncode == 0, "followed", lines[:3], "..", lines[-3:], said)
+    for first in (None, 1, 7, len(wanted)):
+        run = tool("alm_journal", "--port", server.port, *(("--from", first) if first else ()))
+        check(
+            (run.stdout.splitlines(), run.stderr)
+            == (wanted[(first or 1) - 1 :], f"journal: from action {first or 1} on\n"),
+            "from",
+            first,
+            run.stdout[:200],
+            run.stderr,
+        )
     summary = yard.summary(device)
     server.end()
     shown = yard.run("show", device).splitlines()[0].split()
@@ -52,10 +64,10 @@ def journal(yard: Yard, count: int) -> str:
     return f"alm_journal, {len(wanted)} actions"
 
 
-def followed(yard: Yard, device: str, *words: object) -> tuple[subprocess.Popen, object]:
+def followed(yard: Yard, *words: object) -> tuple[subprocess.Popen, object]:
     """A follower that prints to the file `followed`."""
     file = open(yard.path("followed"), "w", encoding="ascii")
-    return start("alm_journal", device, "--follow", *words, stdout=file), file
+    return start("alm_journal", "--follow", *words, stdout=file), file
 
 
 def act(server: Server, count: int) -> list[str]:
@@ -65,28 +77,27 @@ def act(server: Server, count: int) -> list[str]:
     ) as console:
         wanted = []
         for moment in range(1, count + 1):
-            wanted.append(f"{clock.clock(moment)} CLOCK {moment}")
+            wanted.append(f"{clock.clock(moment)} CLOCK {moment}  (slot 17)")
             time.sleep(0.001)
         wanted += [
-            f"{feed.value(2, 1)} VAL XS-201 1",
-            f"{console.acknowledge(2)} ACK XS-201",
-            f"{feed.value(2, 0)} VAL XS-201 0",
-            f"{console.reset(2)} RESET XS-201",
-            f"{console.oos(2, True)} OOS XS-201 ON",
-            f"{console.oos(2, False)} OOS XS-201 OFF",
-            f"{feed.design(3, True)} DESIGN LI-202 ON",
-            f"{feed.design(3, False)} DESIGN LI-202 OFF",
-            f"{console.shelve(1, 60)} SHELVE PI-102 60",
-            f"{console.unshelve(1)} UNSHELVE PI-102",
-            f"{console.priority(3, 1)} PRIO LI-202 1",
-            f"{console.setpoint(3, -7)} SETP LI-202 -7",
+            f"{feed.value(2, 1)} VAL XS-201 1  (slot 16)",
+            f"{console.acknowledge(2)} ACK XS-201  (slot 3)",
+            f"{feed.value(2, 0)} VAL XS-201 0  (slot 16)",
+            f"{console.reset(2)} RESET XS-201  (slot 3)",
+            f"{console.oos(2, True)} OOS XS-201 ON  (slot 3)",
+            f"{console.oos(2, False)} OOS XS-201 OFF  (slot 3)",
+            f"{feed.design(3, True)} DESIGN LI-202 ON  (slot 16)",
+            f"{feed.design(3, False)} DESIGN LI-202 OFF  (slot 16)",
+            f"{console.shelve(1, 60)} SHELVE PI-102 60  (slot 3)",
+            f"{console.unshelve(1)} UNSHELVE PI-102  (slot 3)",
+            f"{console.priority(3, 1)} PRIO LI-202 1  (slot 3)",
+            f"{console.setpoint(3, -7)} SETP LI-202 -7  (slot 3)",
         ]
     return wanted
 
 
 def halves(yard: Yard) -> str:
-    """--from prints what both halves still have, and names what they no longer have; so does a follower that was
-    stopped for a while."""
+    """--from prints what both halves of a device file still have, and names what they no longer have."""
     device = yard.format("halves.device", PLANT)
     yard.run("desk", device, lines="".join(f"17 {moment} CLOCK {moment}\n" for moment in range(1, LONG + 1)))
     wanted = [f"{moment} CLOCK {moment}" for moment in range(1, LONG + 1)]
@@ -103,7 +114,6 @@ def halves(yard: Yard) -> str:
         check(run.stdout.splitlines() == wanted[first - 1 :], "from", first, "it printed", run.stdout[:200])
     run = tool("alm_journal", device, "--from", LONG + 5)
     check(run.stdout == "" and f"the device has {LONG} actions" in run.stderr, run.stdout, run.stderr)
-    held_up(yard, device)
     return "both halves"
 
 
@@ -135,26 +145,64 @@ def asked(yard: Yard) -> str:
     return "who asked"
 
 
-def held_up(yard: Yard, device: str) -> None:
-    """Each action stands in the trail of a follower that was held up, or is named in a gap."""
+def forgotten(yard: Yard) -> str:
+    """What the server doesn't remember is named: what came before its start, while it was away, and while a follower
+    was held up for longer than the server remembers. Else a follower that was held up misses nothing."""
+    device = yard.format("forgotten.device", PLANT)
+    yard.run("desk", device, lines="17 1 CLOCK 1\n17 2 CLOCK 2\n17 3 CLOCK 3\n")
     server = yard.serve(device)
-    trail, file = followed(yard, device, "--port", server.port, "--from", LONG)
-    await_true("the last action", lambda: yard.read("followed") == f"{LONG} CLOCK {LONG}\n")
-    trail.send_signal(signal.SIGSTOP)
-    with Client.connect(server.port, CLOCK) as clock:
-        for moment in range(LONG + 1, 2 * LONG + 1):
-            clock.clock(moment)
-    trail.send_signal(signal.SIGCONT)
-    await_true("the last action", lambda: yard.read("followed").endswith(f"\n{2 * LONG} CLOCK {2 * LONG}\n"))
+    trail, file = followed(yard, "--port", server.port)
+    await_said(trail, "journal: from action 1 on\n")
+    wanted = [f"(actions 1 to 3: {FORGOTTEN})", *clocked(server, 4, 4)]
+    await_trail(yard, wanted)
+    server.end()
+    await_said(trail, "- trying again\n")
+    yard.run("desk", device, lines="17 1 CLOCK 5\n")
+    server = yard.serve(device, server.port)
+    wanted += [f"(action 5: {FORGOTTEN})", *clocked(server, 6, 7)]
+    await_trail(yard, wanted)
+    for last, first in ((1000, 8), (1001 + REMEMBERED, 1002)):
+        trail.send_signal(signal.SIGSTOP)
+        lines = clocked(server, len(wanted_numbers(wanted)) + 1, last)
+        trail.send_signal(signal.SIGCONT)
+        wanted += [f"(action 1001: {FORGOTTEN})"] * (first > 1001) + lines[first - 1 - last :]
+        await_trail(yard, wanted)
+    run = tool("alm_journal", "--port", server.port, "--slot", 12)
+    check(run.stdout.splitlines() == [f"(actions 1 to 1001: {FORGOTTEN})", *wanted[-REMEMBERED:]], run.stdout[:200])
+    run = tool("alm_journal", "--port", server.port, "--slot", 12, "--from", last + 5)
+    check(run.stdout == "" and f"the server has {last} actions" in run.stderr, run.stdout, run.stderr)
     stop(trail)
     file.close()
     server.end()
-    covered, gaps = [], 0
-    for line in yard.read("followed").splitlines():
-        gap = re.fullmatch(r"\(actions (\d+) to (\d+): no longer in the file\)", line)
-        gaps += gap is not None
-        covered += range(int(gap[1]), int(gap[2]) + 1) if gap else [int(line.split()[0])]
-    check(covered == list(range(LONG, 2 * LONG + 1)) and gaps, "the trail goes", yard.read("followed")[:300])
+    return "what a server doesn't remember"
+
+
+def clocked(server: Server, first: int, last: int) -> list[str]:
+    """Sends CLOCKs whose moments are their numbers; what a trail has to have of them."""
+    with Client.connect(server.port, CLOCK) as clock:
+        replies = list(clock.ask_all(f"CLOCK {number}" for number in range(first, last + 1)))
+    numbers = range(first, last + 1)
+    check(replies == [["OK", str(number)] for number in numbers], "CLOCK is answered", replies[:3], "..", replies[-3:])
+    return [f"{number} CLOCK {number}  (slot 17)" for number in numbers]
+
+
+def wanted_numbers(lines: list[str]) -> list[int]:
+    """The actions that lines of a trail are about, each once and in order."""
+    numbers = list[int]()
+    for line in lines:
+        gap = re.match(r"\(actions? (\d+)(?: to (\d+))?:", line)
+        first = int(gap[1] if gap else line.split()[0])
+        numbers += range(first, int((gap and gap[2]) or first) + 1)
+    check(numbers == list(range(1, len(numbers) + 1)), "the test's own lines go", numbers[:5])
+    return numbers
+
+
+def await_trail(yard: Yard, wanted: list[str]) -> None:
+    """Waits until the follower has printed so many lines; they have to be these."""
+    await_true("the trail", lambda: yard.read("followed").count("\n") >= len(wanted))
+    lines = yard.read("followed").splitlines()
+    different = [pair for pair in zip(lines, wanted) if pair[0] != pair[1]]
+    check(lines == wanted, "the trail has", len(lines), "lines for", len(wanted), different[:3])
 
 
 def held_actions(path: str) -> int:
@@ -168,8 +216,8 @@ def held_actions(path: str) -> int:
 
 
 def not_before_its_reply(yard: Yard) -> str:
-    """An action is printed once it is synced, though it stands in the file before; without --port that isn't promised,
-    as it says."""
+    """An action is printed once it is synced, though it stands in the file before; of a device file that isn't
+    promised, as it says."""
     library, device = yard.path("slow.so"), yard.format("slow.device", PLANT)
     if not shutil.which("cc"):
         return "no compiler: an action before its reply left out"
@@ -178,7 +226,7 @@ def not_before_its_reply(yard: Yard) -> str:
         device, loaded={"LD_PRELOAD": library, "SYNC_US": str(int(SYNC * 10**6)), "SYNC_COUNT": yard.path("syncs")}
     )
     with Client.connect(server.port, FEED, patience=60) as feed:
-        trail, file = followed(yard, device, "--port", server.port)
+        trail, file = followed(yard, "--port", server.port)
         await_said(trail, "journal: from action 1 on\n")
         needed = syncs(yard) + 2
         feed.send("1 VAL 0 800\n")
@@ -200,7 +248,7 @@ def watch(yard: Yard, device: str, needed: int) -> None:
         in_trail, in_file, synced = yard.read("followed"), held_actions(device) == 1, syncs(yard) >= needed
         check(synced or not in_trail, "the trail has an action before its reply:", in_trail)
         early.append(in_file and not synced)
-        return in_trail == "1 VAL TI-101 800\n"
+        return in_trail == "1 VAL TI-101 800  (slot 16)\n"
 
     await_true("the action in the trail", is_there)
     check(any(early), "the action wasn't in the file before its last sync")
@@ -213,47 +261,77 @@ def syncs(yard: Yard) -> int:
 
 
 def replaced(yard: Yard) -> str:
-    """A file that is put in the device's place, or formatted again, is followed, and that is said; and lines for
-    people."""
+    """Another plant at the server's place is followed, and that is said: one of fewer actions, and one whose actions
+    are others; and lines for people."""
     device = yard.format("replaced.device", PLANT)
     server = yard.serve(device)
-    trail, file = followed(yard, device, "--from", 1, "--port", server.port, "--table", PLANT)
+    trail, file = followed(yard, "--port", server.port, "--table", PLANT)
     with Client.connect(server.port, CLOCK) as clock, Client.connect(server.port, 0) as console:
         clock.clock(1_795_789_000)
         console.shelve(0, 60)
     await_true("two actions", lambda: yard.read("followed").count("\n") == 2)
     server.end()
-    yard.run("desk", device, lines="0 1 SETP 2 5\n")
     other = yard.format("other.device", PLANT)
-    yard.run("desk", other, lines="17 1 CLOCK 5\n16 2 DESIGN 1 ON\n")
+    yard.run("desk", other, lines="17 1 CLOCK 5\n")
     os.replace(other, device)
     server = yard.serve(device, server.port)
-    await_true("the other device", lambda: yard.read("followed").count("\n") == 6)
+    await_true("the other device", lambda: yard.read("followed").count("\n") == 4)
+    with Client.connect(server.port, FEED) as feed:
+        feed.design(1, True)
+    await_true("its action", lambda: yard.read("followed").count("\n") == 5)
+    trail.send_signal(signal.SIGSTOP)
     server.end()
     yard.format("replaced.device", PLANT)
     server = yard.serve(device, server.port)
     with Client.connect(server.port, 0) as console:
-        console.setpoint(3, 9)
-    await_true("the device that was formatted again", lambda: yard.read("followed").count("\n") == 8)
-    trail.kill()
-    trail.communicate()
+        for value in (9, 8, 7):
+            console.setpoint(3, value)
+    trail.send_signal(signal.SIGCONT)
+    await_true("the device that was formatted again", lambda: yard.read("followed").count("\n") == 9)
+    stop(trail)
     file.close()
     server.end()
     moment = time.strftime("%Y-%m-%d %H:%M:%S", time.localtime(1_795_789_000))
     lines = [re.sub(" +", " ", line) for line in yard.read("followed").splitlines()]
-    other_said = f"(another device is in the place of {device})"
-    check(
-        lines
-        == [
-            f"{moment} 1 - clock",
-            f"{moment} 2 TI-101 shelved for 60 s",
-            "(action 3: in the replaced file, and the server hadn't shown it)",
-            other_said,
-            "5 1 - clock",
-            "5 2 PI-102 suppressed by design",
-            other_said,
-            "0 1 LI-202 given setpoint 9",
-        ],
-        lines,
-    )
+    other_said = "(the server has another plant than before)"
+    wanted = [f"{moment} 1 - clock (slot 17)", f"{moment} 2 TI-101 shelved for 60 s (slot 0)"]
+    wanted += [other_said, f"(action 1: {FORGOTTEN})", "5 2 PI-102 suppressed by design (slot 16)", other_said]
+    wanted += [f"0 {at} LI-202 given setpoint {value} (slot 0)" for at, value in enumerate((9, 8, 7), 1)]
+    check(lines == wanted, lines)
     return "a replaced device"
+
+
+def ends(yard: Yard) -> str:
+    """How alm_journal ends where it can't do what it is asked, and that a follower waits for a server."""
+    device = yard.format("ends.device", PLANT)
+    server = yard.serve(device)
+    port = server.port
+    for words, said in (
+        ((device, "--port", port), "leave out DEVICE"),
+        ((device, "--sockets", yard.folder, "--from", 1), "leave out DEVICE"),
+        ((device, "--follow"), "isn't followed: alm_journal --port P --follow"),
+        ((), "one of DEVICE, --port and --sockets is required"),
+        (("--follow",), "one of DEVICE, --port and --sockets is required"),
+        (("--port", port, "--from", 0), "is no whole number from 1 on"),
+        (("--port", port, "--slot", 16), "invalid choice"),
+    ):
+        check_end(2, said, *words)
+    server.end()
+    check_end(1, "Connection refused", "--port", port)
+    check_end(1, "No such file", "--port", port, "--table", yard.path("none"))
+    check_end(0, "Connection refused - trying again", "--port", port, "--follow", "--seconds", 1)
+    trail, file = followed(yard, "--port", port, "--from", 2**60)
+    await_said(trail, "- trying again\n")
+    server = yard.serve(device, port)
+    await_said(trail, f"journal: the server has 0 actions, so action {2**60} isn't there\njournal: from action 1 on\n")
+    stop(trail)
+    file.close()
+    server.end()
+    return "how alm_journal ends"
+
+
+def check_end(status: int, said: str, *words: object) -> None:
+    """alm_journal ends with this status, and one line that says this."""
+    run = tool("alm_journal", *words)
+    is_line = run.stderr.count("\n") == 1 and said in run.stderr and "Traceback" not in run.stderr
+    check(run.returncode == status and is_line and run.stdout == "", words, run)

@@ -6,15 +6,13 @@ before the damage.
 """
 import contextlib
 import os
-import pathlib
 import re
 import shutil
-import signal
 import sqlite3
 import subprocess
 from dataclasses import dataclass
 
-from lib.tools import Yard, await_said, await_true, start, tool
+from lib.tools import Yard, tool
 
 from alarms.client import CLOCK, Client
 from archives import archive_stopped
@@ -135,16 +133,12 @@ def check_left(plant: Plant, damage: Damage, numbers: list[str]) -> None:
 
 
 class Watched:
-    """A served device, and the follower over it."""
+    """A served device."""
 
     def __init__(self, yard: Yard):
         self.yard, self.device, self.moment = yard, yard.format("watched.device", PLANT), 0
         self.server = yard.serve(self.device)
         self.act(20)
-        with open(yard.path("trail"), "wb") as trail:
-            self.journal = start(
-                "alm_journal", self.device, "--from", 1, "--follow", "--port", self.server.port, stdout=trail
-            )
 
     def act(self, count: int) -> None:
         with Client.connect(self.server.port, CLOCK) as clock:
@@ -168,11 +162,9 @@ class Watched:
 def watched(yard: Yard, _step: int) -> str:
     """Bytes change below a running server: alm_check says so, also as metrics, and no longer once they are put back."""
     plant = Watched(yard)
-    await_true("the trail", lambda: yard.read("trail").endswith("20 CLOCK 20\n"))
     check(WHOLE in plant.page(), "of a whole device its metrics are", plant.page())
     at = gates(content_of(plant.device))[-1][0]
     plant.act(3)
-    await_true("the trail", lambda: yard.read("trail").endswith("23 CLOCK 23\n"))
     for place, field, bit in ((at + 35 + KIND, "text of an action", 0x40), (at + 35, "gate of a frame", 1)):
         judge_watched(plant, place, field, bit)
     plant.server.end()
@@ -191,22 +183,19 @@ def judge_watched(plant: Watched, at: int, field: str, bit: int) -> None:
 
 
 def healed(yard: Yard, _step: int) -> str:
-    """What changed behind the last action that was followed is told, is archived as a gap, and the rest behind it as it
+    """What changed behind the last action that was archived is told, is archived as a gap, and the rest behind it as it
     was."""
     plant = Watched(yard)
-    await_true("the trail", lambda: yard.read("trail").endswith("20 CLOCK 20\n"))
     archive_stopped(shutil.copyfile(plant.device, yard.path("copy.device")), yard.path("watched.sqlite"))
-    plant.journal.send_signal(signal.SIGSTOP)
-    state = pathlib.Path(f"/proc/{plant.journal.pid}/stat")
-    await_true("a stopped process", lambda: state.read_text(encoding="ascii").rpartition(")")[2].split()[0] == "T")
     at = gates(content_of(plant.device))[-1][0]
     plant.act(3)
     plant.flip(at + 35 + KIND, 0x40)
-    plant.journal.send_signal(signal.SIGCONT)
-    await_said(plant.journal, f"is damaged in half 0 at byte {at + 35 + KIND}: text of an action")
-    check(yard.read("trail").endswith("\n21 CLOCK 21\n"), "before the damage stands", yard.read("trail")[-60:])
+    run = tool("alm_journal", plant.device, "--from", 1)
+    check(f"is damaged in half 0 at byte {at + 35 + KIND}: text of an action" in run.stderr, "it says", run.stderr)
+    check(run.stdout.endswith("\n21 CLOCK 21\n"), "before the damage stands", run.stdout[-60:])
     plant.act(80)
-    await_true("a checkpoint in the trail", lambda: yard.read("trail").endswith("\n103 CLOCK 103\n"))
+    trail = tool("alm_journal", plant.device, "--from", 1).stdout
+    check(trail.endswith("\n103 CLOCK 103\n"), "behind a checkpoint stands", trail[-60:])
     plant.server.end()
     archive_stopped(plant.device, yard.path("watched.sqlite"))
     with contextlib.closing(sqlite3.connect(yard.path("watched.sqlite"))) as store:
@@ -219,11 +208,7 @@ def healed(yard: Yard, _step: int) -> str:
         "and has the gaps",
         gaps,
     )
-    check(
-        f"\n(actions 22 to {missing[-1]}: no longer in the file)\n" in yard.read("trail"),
-        "the trail has",
-        yard.read("trail")[-200:],
-    )
+    check(f"\n(actions 22 to {missing[-1]}: no longer in the file)\n" in trail, "the trail has", trail[-200:])
     return f"{len(missing)} actions of a damaged journal named as missing"
 
 

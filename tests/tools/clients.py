@@ -148,6 +148,8 @@ CHECKS: dict[str, Callable[[Yard, int], str]] = {
     "halves": lambda yard, _: check_journal.halves(yard),
     "asked": lambda yard, _: check_journal.asked(yard),
     "replaced": lambda yard, _: check_journal.replaced(yard),
+    "forgotten": lambda yard, _: check_journal.forgotten(yard),
+    "journal_ends": lambda yard, _: check_journal.ends(yard),
     "power": lambda yard, step: power_cut(yard, 50 // step),
     "csv": lambda yard, _: check_tables.csv(yard),
     "help": lambda yard, _: helps(yard),

@@ -28,13 +28,14 @@ OF_A_FILE = (
     " salvage FILE --table; salvage DEVICE FILE; change_table DEVICE FILE --program PROGRAM;"
     " change_table FILE TABLE --program PROGRAM; csv2toml FILE; archive run FILE new.sqlite --stopped;"
     " archive list FILE; archive prune FILE --name x --before 2026-01-31; reports FILE; feed --port 1024 --table FILE;"
-    " feed --port 1024 --map FILE; metrics --port 1024 --listen 0 --table FILE; console --port 1024 --table FILE"
+    " feed --port 1024 --map FILE; metrics --port 1024 --listen 0 --table FILE; console --port 1024 --table FILE;"
+    " journal --port 1024 --table FILE"
 )
 NUMBERS = ("0", "-1", "x", "", "1023", "65519", "70000", "99999999999999999999")
 OF_A_NUMBER = (
     "export --port N; feed --port N; clock --port N --seconds 1; metrics --port N; console --port N;"
     " await_server --port N; metrics --port 1024 --listen N; clock --port 1024 --seconds 1 --jump N;"
-    " export --port 1024 --slot N; csv2toml TABLE --segment N; uncache DEVICE --within N;"
+    " journal --port N; journal --port 1024 --from N; export --port 1024 --slot N; csv2toml TABLE --segment N; uncache DEVICE --within N;"
     " archive run new.sqlite --port 1024 --metrics N --once; browser --port 1024 --listen 0 --metrics N;"
     " await_server --sockets none --let root N --pid 4194305"
 )

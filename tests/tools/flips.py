@@ -11,8 +11,8 @@ of a journal: alm_check sees all but those of the last frame. No power failure l
 - Drawn flips: alm_check names the place of the program's `fault damaged`, and else the plant that `show` shows. No tool
 ends in another way than by a
   line and a status. The archive has the actions before the damage and no others.
-- What alm_salvage brings onto a new device is what `show` showed at that action. - A served device that is damaged: the
-exporter goes on and says so, the follower and the archive say a line, and go on after the next checkpoint.
+- What alm_salvage brings onto a new device is what `show` showed at that action. - A served device that is damaged:
+alm_check says so, also as metrics; alm_journal and the archive say a line, and go on after the next checkpoint.
 """
 import os
 import sys

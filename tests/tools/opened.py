@@ -33,15 +33,16 @@ ARCHIVED = "archive run ARCHIVE --port P --once --name plant"
 BY_LINES = (
     f"await_server --port P; clock --port P --seconds 1; {ARCHIVED}; feed --port P; {ARCHIVED}; archive list ARCHIVE;"
     " reports ARCHIVE; export --port P; export --port P --device DEVICE; mirror --port P;"
-    " csv2toml SHEET"
+    " journal --port P; csv2toml SHEET"
 )
 # The same, of those that run on: what they say once they can be asked, with their address.
 ASKED = {"metrics --port P --listen 0": "/metrics", "browser --port P --listen 0": "/?token="}
 # The same, of those that nobody asks.
-LEFT = "console --port P; alertmanager --port P --to http://127.0.0.1:9"
+LEFT = "console --port P; alertmanager --port P --to http://127.0.0.1:9; journal --port P --follow"
 # Commands that open the device.
 BY_FILE = (
-    "check DEVICE; check DEVICE --metrics; salvage DEVICE --table; uncache DEVICE; journal DEVICE;" " mirror DEVICE"
+    "check DEVICE; check DEVICE --metrics; salvage DEVICE --table; uncache DEVICE; journal DEVICE;"
+    " journal DEVICE --from 1; mirror DEVICE"
 )
 # Both, of a device that isn't served.
 STOPPED, CHANGED = "archive run DEVICE OTHER --stopped", "change_table DEVICE TABLE --program PROGRAM"

@@ -6,7 +6,7 @@ gap. Floods are asked.
 """
 import collections
 from dataclasses import dataclass, field
-from typing import Callable, Iterator, Optional
+from typing import Callable, Iterable, Iterator, Optional
 
 from .client import Client, Flood, Lost, OtherPlant, Place, Plant, Refusal, Refused
 from .device_file import NoDevice
@@ -90,11 +90,7 @@ class LineMirror:
 
     def is_of(self, client: Client) -> bool:
         """Whether a server tells the last actions as they were told before, as far as it remembers them."""
-        start = max(client.since().first - 1, self.count - AGAIN)
-        before = {entry.action.number: entry for entry in self.recent}
-        return start >= self.count or all(
-            before.get(entry.action.number, entry) == entry for entry in client.since(start).entries
-        )
+        return are_told_again(client, self.recent, self.count)
 
     def take_floods(self, floods: list[Flood]) -> list[FloodChange]:
         """Takes what was asked of the areas; which floods began or ended."""
@@ -200,6 +196,15 @@ class LineFollower:
             if refused.refusal != Refusal.FORGOTTEN:
                 raise
             return None
+
+
+def are_told_again(client: Client, recent: Iterable[Entry], count: int) -> bool:
+    """Whether a server tells the last of so many actions as they were told before, as far as it remembers them."""
+    start = max(client.since().first - 1, count - AGAIN)
+    before = {entry.action.number: entry for entry in recent}
+    return start >= count or all(
+        before.get(entry.action.number, entry) == entry for entry in client.since(start).entries
+    )
 
 
 def shown_by_lines(place: Place, slot: int) -> str:
