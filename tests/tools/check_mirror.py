@@ -1,6 +1,5 @@
 """The mirror against `show` of the built program. tests/tools/history.py runs these checks."""
 import collections
-import os
 import random
 import re
 import shutil
@@ -10,14 +9,11 @@ import threading
 from lib.drawn_plants import CONSOLE, WORDS, Hand, draw_plant, module, new_device
 from alarms.client import CLOCK, Client
 from alarms.line_follower import shown_by_lines
-from alarms.mirror import Follower
-from alarms.served import Served
-from alarms.table_file import Table
-from alarms.plant_mirror import Begun, Gap, Mirror, Replaced, Step
+from alarms.plant_mirror import Gap, Mirror, Step
 from alarms.model import SHELVED, AlarmState
 from lib.places import AT_TOOLS, EXAMPLES
 from lib.program import check
-from lib.tools import Yard, await_true
+from lib.tools import Yard
 from slow_count import SLOTS
 
 SLOT = 13
@@ -27,32 +23,24 @@ ROUND, ROUNDS = 40, 12
 
 
 class Watched:
-    """A follower, and what it gave: each action once, in order, as the server numbered it."""
+    """A mirror that goes on as its device does, and what it gave: each action once, in order, as the server numbered
+    it."""
 
-    def __init__(self, device: str, port: int):
-        self.follower = Follower(device, Served(port, SLOT))
+    def __init__(self, device: str):
+        self.mirror = Mirror(device, far=True)
         self.steps: list[Step] = []
         self.gaps: list[Gap] = []
-        self.next = None
+        self.next = self.mirror.count + 1
 
     def look(self) -> None:
-        for one in self.follower.look():
-            if isinstance(one, Begun):
-                self.next = one.number + 1
-                continue
-            check(not isinstance(one, Replaced), "a replaced device, and nobody replaced one")
-            check(
-                one.first == self.next if isinstance(one, Gap) else one.number == self.next,
-                one,
-                "comes where",
-                self.next,
-                "was due",
-            )
+        for one in self.mirror.news():
+            first = one.first if isinstance(one, Gap) else one.number
+            check(first == self.next, one, "comes where", self.next, "was due")
             self.next = one.last + 1 if isinstance(one, Gap) else one.number + 1
             (self.gaps if isinstance(one, Gap) else self.steps).append(one)
 
     def end(self) -> None:
-        self.follower.__exit__()
+        self.mirror.close()
 
 
 def words_of(step: Step) -> str:
@@ -74,18 +62,17 @@ def drawn(yard: Yard, actions: int) -> str:
         plants += 1
         hand, told = Hand(dice, table), None
         server = yard.serve(device)
-        watched = Watched(device, server.port)
+        watched = Watched(device)
         for _ in range(4):
             hand.connect(server)
-            watched.look()  # it may notice the end of its connection
             for _ in range(ROUNDS):
                 hand.ask(ROUND)
                 watched.look()
-                asked += compare_answers(hand.clients[CONSOLE], watched.follower.mirror)
-            check(watched.follower.mirror.count == hand.count(), "the mirror isn't where the server is")
+                asked += compare_answers(hand.clients[CONSOLE], watched.mirror)
+            check(watched.mirror.count == hand.count(), "the mirror isn't where the server is")
             hand.leave()
             server.end()
-            told = compare(yard, device, watched.follower.mirror)
+            told = compare(yard, device, watched.mirror)
             compared += 1
             server = yard.serve(device, server.port)
         server.end()
@@ -181,7 +168,6 @@ def tool_shows(yard: Yard, _count: int) -> str:
     hand.ask(300)
     hand.leave()
     served = run_mirror("--port", server.port)
-    other_device(yard, table, server.port)
     server.end()
     wanted = without_epoch(yard.run("show", device))
     check((served.returncode, served.stderr, served.stdout) == (0, "", wanted), "of a served plant it shows", served)
@@ -204,15 +190,6 @@ def tool_shows(yard: Yard, _count: int) -> str:
         is_line = run.stderr.count("\n") == 1 and said in run.stderr and "Traceback" not in run.stderr
         check(run.returncode == status and is_line and bool(run.stdout) == (status == 0), words, run)
     return "alm_mirror"
-
-
-def other_device(yard: Yard, table: Table, port: int) -> None:
-    """A follower that is given the device of another plant than the server's says so, and gives nothing."""
-    other, said = new_device(yard, "other", table), list[str]()
-    yard.run("desk", other, lines="".join(f"17 {moment} CLOCK {moment}\n" for moment in range(1, 301)))
-    with Follower(other, Served(port, SLOT, lambda *words: said.append(" ".join(map(str, words))))) as follower:
-        check(list(follower.look()) == [], "of another device there is news")
-    check(len(said) == 1 and "is it the server's device?" in said[0], "of another device it says", said)
 
 
 def moving(yard: Yard, count: int) -> str:
@@ -248,7 +225,7 @@ def held_up(yard: Yard, count: int) -> str:
         table = draw_plant(dice, 8, 2)
         device = new_device(yard, f"held{number}", table)
         server, hand = yard.serve(device), Hand(dice, table)
-        watched = Watched(device, server.port)
+        watched = Watched(device)
         hand.connect(server)
         for _ in range(8):
             hand.ask(20)
@@ -257,7 +234,7 @@ def held_up(yard: Yard, count: int) -> str:
             watched.look()
         hand.leave()
         server.end()
-        compare(yard, device, watched.follower.mirror)
+        compare(yard, device, watched.mirror)
         watched.end()
         covered = [step.number for step in watched.steps] + [
             one for gap in watched.gaps for one in range(gap.first, gap.last + 1)
@@ -279,7 +256,7 @@ def crowded(yard: Yard, count: int) -> str:
     table = draw_plant(dice, 30, 30, segment=200_000)
     device = new_device(yard, "crowded", table)
     server, hand = yard.serve(device), Hand(dice, table)
-    watched = Watched(device, server.port)
+    watched = Watched(device)
     watched.look()
     hand.connect(server)
     moments = iter(range(10_000, 10**9))
@@ -292,7 +269,7 @@ def crowded(yard: Yard, count: int) -> str:
         watched.look()
     hand.leave()
     server.end()
-    shown = compare(yard, device, watched.follower.mirror)
+    shown = compare(yard, device, watched.mirror)
     watched.end()
     check(count < 2000 or reaches_far(device), "no action was committed while a checkpoint was made")
     check(
@@ -314,56 +291,4 @@ def reaches_far(path: str) -> bool:
     return held[-1] > newest.count
 
 
-def another(yard: Yard, _count: int) -> str:
-    """A device that is put in the place, one that is formatted again in its place, one of another table: each is told,
-    and followed."""
-    dice = random.Random(12)
-    for number, table_differs in enumerate((False, True, False)):
-        table = draw_plant(dice, 6, 2)
-        device = new_device(yard, f"another{number}", table)
-        server, hand = yard.serve(device), Hand(dice, table)
-        follower = Follower(device, Served(server.port, SLOT))
-        hand.connect(server)
-        hand.ask(60)
-        before = [one for one in follower.look() if isinstance(one, Step)]
-        check(len(before) == len(hand.accepted), "not all actions")
-        hand.leave()
-        server.end()
-        other = draw_plant(dice, 7, 3) if table_differs else table
-        put_in_place(yard, device, other, number)
-        server = yard.serve(device, server.port)
-        hand = Hand(dice, other)
-        hand.connect(server)
-        hand.ask(40)
-        news = []
-        await_true("another device", lambda: news.extend(follower.look()) or len(news) >= 2 + len(hand.accepted))
-        kinds = [type(one).__name__ for one in news]
-        check(kinds[:2] == ["Replaced", "Begun"] and set(kinds[2:]) == {"Step"}, kinds)
-        check(
-            [words_of(one) for one in news[2:]] == [hand.accepted[one] for one in sorted(hand.accepted)],
-            "other actions",
-        )
-        hand.leave()
-        server.end()
-        check(follower.mirror.show() == yard.run("show", device), "it shows another plant")
-        follower.__exit__()
-    return "replaced devices"
-
-
-def put_in_place(yard: Yard, device: str, table: object, number: int) -> None:
-    """Another device by a rename, or the same file formatted again."""
-    fresh = new_device(yard, "fresh", table)
-    if number == 2:
-        shutil.copyfile(fresh, device)
-    else:
-        os.replace(fresh, device)
-
-
-CHECKS = {
-    "drawn": drawn,
-    "mirror_tool": tool_shows,
-    "moving": moving,
-    "held": held_up,
-    "crowded": crowded,
-    "another": another,
-}
+CHECKS = {"drawn": drawn, "mirror_tool": tool_shows, "moving": moving, "held": held_up, "crowded": crowded}

@@ -79,9 +79,7 @@ def run_stopped(chosen: argparse.Namespace, name: str) -> None:
     """Archives a stopped device up to its end; with `existing` only where there is an archive."""
     if chosen.existing and not is_there(chosen.database):
         return
-    with stopped(chosen.device), Store.open(chosen.database, make=True) as store, Follower(
-        chosen.device, Served(None, chosen.slot)
-    ) as follower:
+    with stopped(chosen.device), Store.open(chosen.database, make=True) as store, Follower(chosen.device) as follower:
         archiver = Archiver(store, name, follower)
         try:
             archiver.look_on()

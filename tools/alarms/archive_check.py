@@ -4,7 +4,7 @@ Each row of the model is held against the server's, at the same count of actions
 and once an hour. What differs is logged, counted on the page of metrics, and kept for reports.
 """
 import time
-from typing import Iterable, Iterator
+from typing import Iterable, Iterator, Optional
 
 from .client import Lost, OtherPlant, Refused
 from .ending import sayer
@@ -22,7 +22,7 @@ say = sayer("alm_archive")
 class ArchiveCheck:
     """Holds the rows of the archived plant against those of a server, where there is one."""
 
-    def __init__(self, served: Served):
+    def __init__(self, served: Optional[Served]):
         self.served, self.rows = served, RowCheck()
         # which fields of each alarm were told as denied
         self.told: dict[int, set[str]] = {}
@@ -38,8 +38,9 @@ class ArchiveCheck:
     def look(self, plant: PlantModel) -> None:
         """Asks for some rows, where a round is due or under way. A server that can't be asked is asked again later; one
         of an earlier release shows no rows."""
-        client = self.served.asked.client if self.served.plant and self.served.is_there else None
-        if client is None or (not self.left and time.monotonic() < self.due):
+        served = self.served
+        client = served.plant.client if served and served.is_there else None
+        if served is None or client is None or (not self.left and time.monotonic() < self.due):
             return
         if not self.left:
             self.left, self.due = len(plant.alarms), time.monotonic() + EVERY
@@ -50,7 +51,7 @@ class ArchiveCheck:
         except Refused:
             self.left = 0
         except (Lost, OtherPlant):
-            self.served.end()
+            served.end()
 
     def reached(self, plant: PlantModel) -> None:
         """The plant has one action more."""

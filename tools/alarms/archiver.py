@@ -103,9 +103,8 @@ class Archiver:
     def metrics(self) -> Iterator[Metric]:
         """Name, kind, page and value of each metric."""
         rows, kept = self.check.rows, self.kept
-        yield "alarms_archive_connected", "gauge", "Whether the archiver has the server.", int(
-            self.follower.served.is_there
-        )
+        is_there = self.follower.served is not None and self.follower.served.is_there
+        yield "alarms_archive_connected", "gauge", "Whether the archiver has the server.", int(is_there)
         if kept:
             yield "alarms_archive_last_action", "gauge", "The number of the last archived action.", kept.last
         missing = "Actions that the archive hasn't, of those since the archiver began."
@@ -161,11 +160,11 @@ class Archiver:
 
     def is_another(self, last: ArchivedPlant) -> str:
         """Why the device's plant can't be the one that was archived last, if so."""
-        count, shown = self.model.count, self.follower.served.count
+        count, served = self.model.count, self.follower.served
         if fixed(table_of(self.store, last.number)) != fixed(self.model.table()):
             return "the table is another one"
-        if shown < last.last:
-            return f"the server has {shown} actions, and {last.last} are archived"
+        if served and served.count < last.last:
+            return f"the server has {served.count} actions, and {last.last} are archived"
         if count >= last.last and self.model.now < last.moment:
             return "its clock is behind what is archived"
         if count == last.last and self.model.now == last.moment:
@@ -182,7 +181,7 @@ class Archiver:
         """Begins another plant of the name, with what the device holds."""
         number, before = (self.store.value("SELECT MAX(plant) FROM plant") or 0) + 1, latest(self.store, self.name)
         model, served = self.model, self.follower.served
-        shown = self.follower.mirror.last() if served.place is None else served.count
+        shown = served.count if served else self.follower.mirror.last()
         if before and not before.is_whole:
             self.open_gap(before, UNSEEN)
         self.store.insert(

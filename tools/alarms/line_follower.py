@@ -150,13 +150,13 @@ class LineFollower:
 
     def ask(self) -> Told:
         """Asks for all that is new."""
-        client, table = known(self.served.asked.client), self.served.asked.table
+        client, table = known(self.served.plant.client), self.served.plant.table
         if self.begun is None:
             return self.begin(client, table)
         if self.is_other(client, table):
             last, self.begun = self.mirror.count, None
             self.served.forget()
-            return Told([Replaced(last, None)])
+            return Told([Replaced(last)])
         last = self.mirror.count
         if self.is_broken:
             self.begun, self.is_broken = LineMirror.of_rows(client, table), False

@@ -61,7 +61,7 @@ class LineTrail:
         self.served.look()
         if not self.served.is_there:
             return
-        client, table = known(self.served.asked.client), self.served.asked.table
+        client, table = known(self.served.plant.client), self.served.plant.table
         try:
             if self.table is not None and self.is_other(client, table):
                 yield "(the server has another plant than before)"
