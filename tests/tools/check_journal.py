@@ -56,6 +56,7 @@ def journal(yard: Yard, count: int) -> str:
             run.stdout[:200],
             run.stderr,
         )
+    follow_on(server, len(wanted))
     summary = yard.summary(device)
     server.end()
     shown = yard.run("show", device).splitlines()[0].split()
@@ -64,10 +65,18 @@ def journal(yard: Yard, count: int) -> str:
     return f"alm_journal, {len(wanted)} actions"
 
 
+def follow_on(server: Server, count: int) -> None:
+    """Without --from a follower begins with the next action."""
+    run = tool("alm_journal", "--port", server.port, "--follow", "--seconds", 0.5)
+    said = f"journal: from action {count + 1} on\n"
+    check((run.returncode, run.stdout, run.stderr) == (0, "", said), "follow", run)
+
+
 def followed(yard: Yard, *words: object) -> tuple[subprocess.Popen, object]:
-    """A follower that prints to the file `followed`."""
+    """A follower that prints to the file `followed`, from the first action on."""
     file = open(yard.path("followed"), "w", encoding="ascii")
-    return start("alm_journal", "--follow", *words, stdout=file), file
+    first = () if "--from" in words else ("--from", 1)
+    return start("alm_journal", "--follow", *first, *words, stdout=file), file
 
 
 def act(server: Server, count: int) -> list[str]:

@@ -1,8 +1,8 @@
 """Prints the accepted actions of a plant by its server's lines; or what the journal of a device file has.
 
     alm_journal --port P                the actions that the server remembers: number, words, the alarm's tag, the slot
-    alm_journal --port P --follow       the same, and then each accepted action as it comes
-    alm_journal --port P --from 5 ..    the actions from that number on
+    alm_journal --port P --follow       each accepted action as it comes
+    alm_journal --port P --from 5 ..    the actions from that number on, and with --follow those that come
     alm_journal DEVICE                  how full the file's journal is, actions a frame, epoch, count, clock
     alm_journal DEVICE --from 1         the actions from that number on, as far as the file has them
 
@@ -131,7 +131,7 @@ def print_served(chosen: argparse.Namespace, table: Optional[TableFile]) -> None
     served = Served(chosen.port, chosen.slot)
     if chosen.follow:
         served.say = say
-    trail = LineTrail(served, chosen.first or 1, table, say)
+    trail = LineTrail(served, chosen.first if chosen.follow else chosen.first or 1, table, say)
     ends = time.monotonic() + chosen.seconds if chosen.seconds is not None else None
     while True:
         for line in trail.look():
@@ -154,7 +154,7 @@ def journal(chosen: argparse.Namespace) -> None:
 def main() -> None:
     words = Parser("alm_journal", __doc__)
     words.add_argument("device", metavar="DEVICE", nargs="?", help="a device file, in place of a server's place")
-    words.add_argument("--follow", action="store_true", help="of a server: print accepted actions as they come, too")
+    words.add_argument("--follow", action="store_true", help="of a server: print accepted actions as they come")
     words.add_argument(
         "--from", dest="first", type=whole_number, metavar="N", help="print the actions from number N on"
     )

@@ -42,12 +42,12 @@ def missing(first: int, last: int, why: str) -> Iterator[str]:
 
 
 class LineTrail:
-    """The lines of a served plant's actions, from the action of a number on."""
+    """The lines of a served plant's actions, from the action of a number on, or where it is None from the next one."""
 
-    def __init__(self, served: Served, first: int, table: Optional[TableFile], say: Callable[..., None]):
-        self.served, self.file, self.say = served, table, say
+    def __init__(self, served: Served, first: Optional[int], table: Optional[TableFile], say: Callable[..., None]):
+        self.served, self.file, self.say, self.first = served, table, say, first
         # the number of the next action that is printed, and how many the server showed
-        self.next, self.count = first, 0
+        self.next, self.count = first or 1, 0
         # the plant that is followed; none before it is begun
         self.table: Optional[Table] = None
         self.recent: collections.deque[Entry] = collections.deque(maxlen=AGAIN)
@@ -94,6 +94,8 @@ class LineTrail:
         if client is self.client:
             return
         self.client, self.table, self.wording = client, table, Wording(table.alarms, self.file)
+        if self.is_new and self.first is None:
+            self.next = self.count + 1
         if self.is_new and self.next > self.count + 1:
             self.say(f"the server has {self.count} actions, so action {self.next} isn't there")
         if self.is_new:
