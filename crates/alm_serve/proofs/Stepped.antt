@@ -14,7 +14,7 @@ use Rattle.alm_session.specs.declared.session.Session.{Session}
 use Rattle.alm_session.specs.declared.turn.Turn.{Turn}
 use Rattle.alm_session.specs.declared.turn.Turn.TheVariants as turn
 use Rattle.alm_serve.specs.Ports.{traffic_with}
-use Rattle.alm_serve.specs.Service.{Attends, Serves, Settles, TurnServes, by_wire, stage}
+use Rattle.alm_serve.specs.Service.{Attends, ServesClients, Settles, TurnServes, by_wire, stage}
 use Rattle.alm_serve.specs.StreamWires.{wire_counts, wire_input}
 use Rattle.alm_serve.specs.declared.connection.Connection.{Connection}
 use Rattle.alm_serve.specs.declared.connection.Connection.TheVariants.{Awaited, Open, Ended}
@@ -105,26 +105,26 @@ module _ {S T : Type 0} {g : Ghosts T} (looks : Looks) (base : Condensed) (sessi
   Counted wire turn now = Turns turn later before after (wire_counts wire) (wire_counts now) None
 
   served_open : (wire : StreamWire S) (next : Connection (StreamWire S)) (result : Served (StreamWire S)) (kept left : Traffic) (n m : ℕ) → Turned Counted wire result next
-      → Serves looks base (Open (wire_counts wire)) (by_wire wire_counts next) n m later before after (old_side (Open wire) kept) (new_side next left)
+      → ServesClients looks base (Open (wire_counts wire)) (by_wire wire_counts next) n m later before after (old_side (Open wire) kept) (new_side next left)
   served_open wire next result kept left n m (turn.Went, (now, serves, went, more)) =
-      subst (λ (c : Connection (StreamWire S)). Serves looks base (Open (wire_counts wire)) (by_wire wire_counts c) n m later before after (old_side (Open wire) kept) (new_side c left)) (sym serves.1) (inl went)
+      subst (λ (c : Connection (StreamWire S)). ServesClients looks base (Open (wire_counts wire)) (by_wire wire_counts c) n m later before after (old_side (Open wire) kept) (new_side c left)) (sym serves.1) (inl went)
   served_open wire next result kept left n m (turn.Idle, (now, serves, went, more)) =
-      subst (λ (c : Connection (StreamWire S)). Serves looks base (Open (wire_counts wire)) (by_wire wire_counts c) n m later before after (old_side (Open wire) kept) (new_side c left)) (sym serves.1) (inr more)
+      subst (λ (c : Connection (StreamWire S)). ServesClients looks base (Open (wire_counts wire)) (by_wire wire_counts c) n m later before after (old_side (Open wire) kept) (new_side c left)) (sym serves.1) (inr more)
   served_open wire next result kept left n m (turn.Ended, (now, serves, went, more)) =
-      subst (λ (c : Connection (StreamWire S)). Serves looks base (Open (wire_counts wire)) (by_wire wire_counts c) n m later before after (old_side (Open wire) kept) (new_side c left)) (sym serves.1) tt
+      subst (λ (c : Connection (StreamWire S)). ServesClients looks base (Open (wire_counts wire)) (by_wire wire_counts c) n m later before after (old_side (Open wire) kept) (new_side c left)) (sym serves.1) tt
   served_open wire next result kept left n m (turn.Fault, (now, serves, went, more)) =
-      subst (λ (c : Connection (StreamWire S)). Serves looks base (Open (wire_counts wire)) (by_wire wire_counts c) n m later before after (old_side (Open wire) kept) (new_side c left)) (sym serves.1) tt
+      subst (λ (c : Connection (StreamWire S)). ServesClients looks base (Open (wire_counts wire)) (by_wire wire_counts c) n m later before after (old_side (Open wire) kept) (new_side c left)) (sym serves.1) tt
 
   served_ended : (next : Connection (StreamWire S)) (result : Served (StreamWire S)) (kept left : Traffic) (n m : ℕ) → Dropped (IsQuiet after ⊎ (length (received_of before) + most_out ≤ length (received_of after))) result next
-      → Serves looks base Ended (by_wire wire_counts next) n m later before after (old_side Ended kept) (new_side next left)
+      → ServesClients looks base Ended (by_wire wire_counts next) n m later before after (old_side Ended kept) (new_side next left)
   served_ended next result kept left n m (inl (is, now, all), same, sent, drained, more) =
-      subst (λ (c : Connection (StreamWire S)). Serves looks base Ended (by_wire wire_counts c) n m later before after (old_side Ended kept) (new_side c left)) (sym now) tt
+      subst (λ (c : Connection (StreamWire S)). ServesClients looks base Ended (by_wire wire_counts c) n m later before after (old_side Ended kept) (new_side c left)) (sym now) tt
   served_ended next result kept left n m (inr (is, now, some), same, sent, drained, more) =
-      subst (λ (c : Connection (StreamWire S)). Serves looks base Ended (by_wire wire_counts c) n m later before after (old_side Ended kept) (new_side c left)) (sym now) more
+      subst (λ (c : Connection (StreamWire S)). ServesClients looks base Ended (by_wire wire_counts c) n m later before after (old_side Ended kept) (new_side c left)) (sym now) more
 
   -- a step of a service serves
   pub served_in : (was next : Connection (StreamWire S)) (result : Served (StreamWire S)) (kept left : Traffic) (n m : ℕ) → was ≢ Awaited → ((wire : StreamWire S) → was ≡ Open wire → Turned Counted wire result next)
-      → (was ≡ Ended → Dropped (IsQuiet after ⊎ (length (received_of before) + most_out ≤ length (received_of after))) result next) → Serves looks base (by_wire wire_counts was) (by_wire wire_counts next) n m later before after (old_side was kept) (new_side next left)
+      → (was ≡ Ended → Dropped (IsQuiet after ⊎ (length (received_of before) + most_out ≤ length (received_of after))) result next) → ServesClients looks base (by_wire wire_counts was) (by_wire wire_counts next) n m later before after (old_side was kept) (new_side next left)
   served_in Awaited next result kept left n m other turns drops = absurd (other refl)
   served_in (Open wire) next result kept left n m other turns drops = served_open wire next result kept left n m (turns wire refl)
   served_in Ended next result kept left n m other turns drops = served_ended next result kept left n m (drops refl)

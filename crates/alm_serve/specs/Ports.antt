@@ -14,7 +14,7 @@ use Rattle.alm_serve.specs.declared.connection.Connection.TheVariants.{Awaited, 
 use Rattle.alm_serve.specs.declared.slot_port.SlotPort.{SlotPort}
 use Rattle.alm_serve.specs.declared.stream_wire.StreamWire.{StreamWire}
 use Rattle.alm_serve.specs.declared.traffic.Traffic.{Traffic}
-use Rattle.alm_serve.specs.Service.{Attends, Serves, by_wire, stage}
+use Rattle.alm_serve.specs.Service.{Attends, ServesClients, by_wire, stage}
 use Rattle.alm_serve.specs.StreamWires.{wire_counts}
 use Rattle.alm_serve.specs.Talks.{AreTalks, Talk}
 
@@ -69,10 +69,10 @@ module _ {R T : Type 0} where
   abbrev pub AreUnused : List (SlotPort R T) → Type 0
   AreUnused ports = (k : ℕ) (port : SlotPort R T) → slice_get ports k ≡ Some port → IsUnused port
 
-  -- a port did for its clients what `Serves` says
-  abbrev pub HasServed : {g : Ghosts T} → Looks → Condensed → (was now : SlotPort R T) → (before after : Console T g) → (a b : SlotState) → Type 0
-  HasServed looks base was now before after a b =
-      Serves looks base (by_wire wire_counts was.service.connection) (by_wire wire_counts now.service.connection) was.listener.nobody now.listener.nobody now.service.session before after a b
+  -- a port did for its clients what `ServesClients` says
+  abbrev pub PortServes : {g : Ghosts T} → Looks → Condensed → (was now : SlotPort R T) → (before after : Console T g) → (a b : SlotState) → Type 0
+  PortServes looks base was now before after a b =
+      ServesClients looks base (by_wire wire_counts was.service.connection) (by_wire wire_counts now.service.connection) was.listener.nobody now.listener.nobody now.service.session before after a b
 
   module _ {g : Ghosts T} (base : Condensed) where
     -- a port has become another. All that was sent and received at its slot's console was so in its turns

@@ -90,8 +90,8 @@ module _ {T : Type 0} {g : Ghosts T} (looks : Looks) (base : Condensed) where
   -- what a port did for its clients in a turn after which it is where it was, by its wire's counts and by how often nobody waited.
   -- Without a connection nobody waited for one. An open one was given a turn of its session that went, or that could do nothing.
   -- Of one that has ended no receipt is known to wait, or as many came as a slot may have out
-  abbrev pub Serves : (was now : Connection Counts) → (nobody later : ℕ) → Session → (before after : Console T g) → (a b : SlotState) → Type 0
-  Serves Awaited Awaited nobody later session before after a b = later ≡ one_more nobody
-  Serves (Open old) (Open new) nobody later session before after a b = IsTurn looks base 1 a b ⊎ Turns turn.Idle session before after old new None
-  Serves Ended Ended nobody later session before after a b = IsQuiet after ⊎ (length (received_of before) + most_out ≤ length (received_of after))
-  Serves was now nobody later session before after a b = Unit {0}
+  abbrev pub ServesClients : (was now : Connection Counts) → (nobody later : ℕ) → Session → (before after : Console T g) → (a b : SlotState) → Type 0
+  ServesClients Awaited Awaited nobody later session before after a b = later ≡ one_more nobody
+  ServesClients (Open old) (Open new) nobody later session before after a b = IsTurn looks base 1 a b ⊎ Turns turn.Idle session before after old new None
+  ServesClients Ended Ended nobody later session before after a b = IsQuiet after ⊎ (length (received_of before) + most_out ≤ length (received_of after))
+  ServesClients was now nobody later session before after a b = Unit {0}

@@ -85,7 +85,7 @@ impl<'r, R: Clock, T: Told + Drop> SlotPort<'r, R, T> {
     ghost use Rattle.alm_session.specs.Sides.{heard_by};
     ghost use Rattle.alm_session.specs.Turns.{between};
     ghost use Rattle.alm_serve.specs.declared.connection.Connection.TheVariants as connection;
-    ghost use Rattle.alm_serve.specs.Ports.{HasServed, IsUnused, side_of, traffic_of};
+    ghost use Rattle.alm_serve.specs.Ports.{PortServes, IsUnused, side_of, traffic_of};
     ghost use Rattle.alm_serve.specs.Service.{Attends, IsFresh, IsLate, by_wire, stage, without_wire};
     ghost use Rattle.alm_serve.specs.StreamWires.{wire_counts};
     ghost use Rattle.alm_threads.specs.declared.go.Go.TheVariants as go;
@@ -182,7 +182,7 @@ impl<'r, R: Clock, T: Told + Drop> SlotPort<'r, R, T> {
             (side_of self.old (L.Look.knows look.old) (sent_of console.old) (heard_by console.old))
             (side_of self.new (L.Look.knows look.new) (sent_of console.new) (heard_by console.new)) }
         ensures serves { IsLate self.old.watch self.new.watch ⊎
-            HasServed (between L.Look.looked L.Recall.recalled look.old look.new)
+            PortServes (between L.Look.looked L.Recall.recalled look.old look.new)
             (L.Look.base look.old) self.old self.new console.old console.new
             (side_of self.old (L.Look.knows look.old) (sent_of console.old) (heard_by console.old))
             (side_of self.new (L.Look.knows look.new) (sent_of console.new) (heard_by console.new)) }
@@ -244,7 +244,7 @@ impl<'r, R: Clock, T: Told + Drop> SlotPort<'r, R, T> {
             (side_of self.old (L.Look.knows look.old) (sent_of console.old) (heard_by console.old))
             (side_of self.new (L.Look.knows look.new) (sent_of console.new) (heard_by console.new)) }
         ensures serves { (result ≡ go.End) ⊎ IsLate self.old.watch self.new.watch ⊎
-            HasServed (between L.Look.looked L.Recall.recalled look.old look.new)
+            PortServes (between L.Look.looked L.Recall.recalled look.old look.new)
             (L.Look.base look.old) self.old self.new console.old console.new
             (side_of self.old (L.Look.knows look.old) (sent_of console.old) (heard_by console.old))
             (side_of self.new (L.Look.knows look.new) (sent_of console.new) (heard_by console.new)) }
@@ -268,7 +268,7 @@ impl<R: Clock, T: Told + Drop, L: FreeLook<Told = T> + Recall> Source<T, L> for 
     ghost use Rattle.alm_session.specs.Turns.{between};
     ghost use Rattle.alm_threads.specs.Sources.{reported_of};
     ghost use Rattle.alm_threads.specs.declared.go.Go.TheVariants as go;
-    ghost use Rattle.alm_serve.specs.Ports.{HasServed, side_of};
+    ghost use Rattle.alm_serve.specs.Ports.{PortServes, side_of};
     ghost use Rattle.alm_serve.specs.Service.{Attends, IsLate, as_heard, stage};
 
     ghost slot = { λ port. Some port.slot };
@@ -290,7 +290,7 @@ impl<R: Clock, T: Told + Drop, L: FreeLook<Told = T> + Recall> Source<T, L> for 
             (side_of self.new (L.Look.knows look.new) (sent_of console.new) (map as_heard (map reported_of (received_of console.new)))) }
         // Unless it ends, or a device call takes too long, it has served whoever is there.
         ensures serves { (result ≡ go.End) ⊎ IsLate self.old.watch self.new.watch ⊎
-            HasServed (between L.Look.looked L.Recall.recalled look.old look.new)
+            PortServes (between L.Look.looked L.Recall.recalled look.old look.new)
             (L.Look.base look.old) self.old self.new console.old console.new
             (side_of self.old (L.Look.knows look.old) (sent_of console.old) (heard_by console.old))
             (side_of self.new (L.Look.knows look.new) (sent_of console.new) (heard_by console.new)) }
