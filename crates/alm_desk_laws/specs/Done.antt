@@ -1,21 +1,16 @@
 -- What the lines of a desk have done.
-use Rattle.std.specs.Prelude.{◌≡◌, ℕ, List, [], ◌∷◌, ◌++◌, Option, Some, None, Result, length, map, take}
+use Rattle.std.specs.Prelude.{◌≡◌, ℕ, List, [], ◌∷◌, ◌++◌, Option, Some, None, Result, length, map}
 use Rattle.std.specs.Prelude.{Ok as Good, Err as Wrong}
 use Rattle.alm_types.specs.declared.action.Action.{Action}
 use Rattle.alm_types.specs.declared.event.Event.{Event}
 use Rattle.alm_types.specs.declared.want.Want.{Want}
 use Rattle.alm_types.specs.declared.query.Query.{Query}
 use Rattle.alm_types.specs.declared.refusal.Refusal.{Refusal}
-use Rattle.alm_types.specs.declared.alarm_row.AlarmRow.{AlarmRow}
-use Rattle.alm_types.specs.declared.attr.Attr.{Attr}
-use Rattle.alm_types.specs.declared.shown.Shown.{Shown}
 use Rattle.alm_types.specs.Reports.{Report}
 use Rattle.alm_types.specs.Tables.{Listing, IsTable}
-use Rattle.alm_state.specs.Rows.{State}
 use Rattle.alm_model.specs.Plant.{Condensed}
 use Rattle.alm_model.specs.Accept.{accept}
 use Rattle.alm_model.specs.New.{new_plant}
-use Rattle.alm_laws.specs.Shown.{flags_shown}
 use Rattle.alm_lines.specs.Reply.{told_text}
 use Rattle.alm_lines.specs.declared.ask.Ask.{Ask}
 use Rattle.alm_lines.specs.declared.ask.Ask.TheVariants.{Act, Look, Recall}
@@ -84,16 +79,3 @@ reply_to_since s lines slot id after = reply (after_lines s lines) (answered_at 
 -- a query at a slot is answered next by a report, with the number of actions that are done
 abbrev pub PrintsReport : DeskState → List AnsweredLine → ℕ → ℕ → Query → Report → Type 0
 PrintsReport s lines slot id asked report = reply_to_query s lines slot id asked ≡ told_text id (length (done s lines)) asked report
-
--- the row of an alarm that is shown so, with its attributes and the moments of its annunciations, the latest first
-abbrev pub row_shown : State → Attr → List ℕ → Shown → AlarmRow
-row_shown r a moments shown = record {
-  shown = shown;
-  active = r.active;
-  flags = flags_shown r;
-  until = r.shelved_until;
-  stamp = r.stamp;
-  priority = a.priority;
-  setpoint = a.setpoint;
-  moments = take 3 moments;
-}

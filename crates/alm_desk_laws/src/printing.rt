@@ -25,9 +25,9 @@ ghost use Rattle.alm_lines.specs.Reply.{no_text, ok_text};
 ghost use Rattle.alm_desk.specs.Answers.{DeskState, AnsweredLine, request};
 ghost use Rattle.alm_laws.specs.Listed.{HasJustThose, IsStaleAlarm, IsChatteringAlarm};
 ghost use Rattle.alm_laws.specs.Refused.{reasons};
-ghost use Rattle.alm_laws.specs.Shown.{IsShownAsItIs, flags_shown};
+ghost use Rattle.alm_laws.specs.Shown.{IsShownAsItIs, flags_shown, row_shown};
 ghost use Rattle.alm_laws.specs.Taken.{IsAcceptable};
-ghost use Rattle.alm_desk_laws.specs.Done.{HasAnswered, PrintsReport, done, happened, reply_to_action, reply_to_since, row_shown};
+ghost use Rattle.alm_desk_laws.specs.Done.{HasAnswered, PrintsReport, done, happened, reply_to_action, reply_to_since};
 
 /// The plant is the new one after the actions that the lines have done. Each was admitted at its turn.
 pub fn the_plant_is_what_its_lines_have_done()

@@ -1,5 +1,5 @@
 -- What the queries report.
-use Rattle.std.proofs.Common.{◌≡◌, ℕ, ◌<◌, ◌≤◌, Bool, false, ◌&&◌, List, length, Option, Some, None, Ok, Err, sum, take, refl, ap, ◌∙◌, arith, inl, inr, ◌⊎◌}
+use Rattle.std.proofs.Common.{◌≡◌, ℕ, ◌<◌, ◌≤◌, Bool, false, ◌&&◌, List, length, Option, Some, None, Ok, Err, sum, refl, ap, ◌∙◌, arith, inl, inr, ◌⊎◌}
 use Rattle.std.specs.Prelude.{slice_get, nat_le, nat_lt}
 use Rattle.std.proofs.lemmas.Bool.Decides.{nat_tests}
 use Rattle.alm_types.specs.declared.alarm_id.AlarmId.{AlarmId}
@@ -12,7 +12,7 @@ use Rattle.alm_state.specs.Showing.{shown_of}
 use Rattle.alm_model.specs.Plant.{Condensed}
 use Rattle.alm_model.specs.Look.{look, state_report, flood_report, attributes_report, row_report, row_of}
 use Rattle.alm_model.specs.Lists.{moments_in}
-use Rattle.alm_laws.specs.Shown.{flags_shown}
+use Rattle.alm_laws.specs.Shown.{row_shown}
 
 pub flood-reported : (q : Condensed) (area : ℕ) (ages : List ℕ) (on : Bool) → slice_get q.kept.ages area ≡ Some ages → slice_get q.floods area ≡ Some on → look q (query.Flood area) ≡ Ok (flood (sum ages) on)
 flood-reported q area ages on e f = ap (λ o. flood_report o (slice_get q.floods area)) e ∙ ap (flood_report (Some ages)) f
@@ -26,7 +26,7 @@ row-shown o p m s a moments e f g = rw (e, f, g) refl
 
 pub row-reported : (q : Condensed) (i : AlarmId) (s : State) (a : Attr) (moments : List ℕ) → slice_get q.panel.rows i.0 ≡ Some s → slice_get q.panel.attrs i.0 ≡ Some a
     → slice_get q.kept.moments i.0 ≡ Some moments
-    → look q (query.Row i) ≡ Ok (row (Some record { shown = shown_of s; active = s.active; flags = flags_shown s; until = s.shelved_until; stamp = s.stamp; priority = a.priority; setpoint = a.setpoint; moments = take 3 moments }))
+    → look q (query.Row i) ≡ Ok (row (Some (row_shown s a moments (shown_of s))))
 row-reported q i s a moments e f g = row-shown _ _ _ s a moments e f g
 
 pub row-refused : (q : Condensed) (i : AlarmId) → slice_get q.panel.rows i.0 ≡ None → look q (query.Row i) ≡ Err NoSuchAlarm

@@ -1,5 +1,7 @@
 -- What is shown of an alarm, said by what an operator reads from it.
-use Rattle.std.specs.Prelude.{◌≡◌, ℕ, ◌+◌, Bool, true, false, not, ◌&&◌, is_some, if◌then◌else◌}
+use Rattle.std.specs.Prelude.{◌≡◌, ℕ, ◌+◌, List, Bool, true, false, not, ◌&&◌, is_some, take, if◌then◌else◌}
+use Rattle.alm_types.specs.declared.alarm_row.AlarmRow.{AlarmRow}
+use Rattle.alm_types.specs.declared.attr.Attr.{Attr}
 use Rattle.alm_types.specs.declared.shown.Shown.{Shown}
 use Rattle.alm_types.specs.declared.shown.Shown.TheVariants.{OutOfService, ByDesign, Shelved, Unack, Acked, RtnUnack, LatchUnack, LatchAcked}
 use Rattle.alm_state.specs.Rows.{State, is_annunciated, is_active_core}
@@ -59,3 +61,16 @@ pub record IsShownAsItIs (s : State) (x : Shown) : Type 0 where
 -- the flags as a number: 1 for shelved, 2 for by design, 4 for out of service, added
 abbrev pub flags_shown : State → ℕ
 flags_shown s = (if is_some s.shelved_until then 1 else 0) + (if s.by_design then 2 else 0) + (if s.out_of_service then 4 else 0)
+
+-- the row of an alarm that is shown so, with its attributes and the moments of its annunciations, the latest first
+abbrev pub row_shown : State → Attr → List ℕ → Shown → AlarmRow
+row_shown s a moments shown = record {
+  shown = shown;
+  active = s.active;
+  flags = flags_shown s;
+  until = s.shelved_until;
+  stamp = s.stamp;
+  priority = a.priority;
+  setpoint = a.setpoint;
+  moments = take 3 moments;
+}

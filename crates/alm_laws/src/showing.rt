@@ -1,6 +1,6 @@
 //! Laws of what is shown of an alarm.
 
-ghost use Rattle.std.specs.Prelude.{◌≡◌, ◌↔◌, ◌⊎◌, ◌<◌, ◌≤◌, ℕ, Bool, List, Some, None, Ok, Err, slice_get, sum, length, take};
+ghost use Rattle.std.specs.Prelude.{◌≡◌, ◌↔◌, ◌⊎◌, ◌<◌, ◌≤◌, ℕ, Bool, List, Some, None, Ok, Err, slice_get, sum, length};
 ghost use Rattle.alm_types.specs.declared.alarm_id.AlarmId.{AlarmId};
 ghost use Rattle.alm_types.specs.declared.attr.Attr.{Attr};
 ghost use Rattle.alm_types.specs.declared.query.Query.TheVariants as query;
@@ -13,7 +13,7 @@ ghost use Rattle.alm_model.specs.Plant.{Condensed};
 ghost use Rattle.alm_model.specs.Lists.{list_of};
 ghost use Rattle.alm_model.specs.Look.{look};
 ghost use Rattle.alm_model.specs.declared.list.List.TheVariants.{Stale, Chatter};
-ghost use Rattle.alm_laws.specs.Shown.{IsShownAsItIs, flags_shown};
+ghost use Rattle.alm_laws.specs.Shown.{IsShownAsItIs, flags_shown, row_shown};
 
 /// What is shown of an alarm is the only thing that answers seven questions as it does. STATE reports it, with its condition, its
 /// flags and the end of its shelving.
@@ -38,16 +38,7 @@ pub fn queries_report_the_plant()
     ensures row { (q : Condensed) (i : AlarmId) (s : State) (a : Attr) (moments : List ℕ) →
         slice_get q.panel.rows i.0 ≡ Some s → slice_get q.panel.attrs i.0 ≡ Some a →
         slice_get q.kept.moments i.0 ≡ Some moments →
-        look q (query.Row i) ≡ Ok (row (Some record {
-          shown = shown_of s;
-          active = s.active;
-          flags = flags_shown s;
-          until = s.shelved_until;
-          stamp = s.stamp;
-          priority = a.priority;
-          setpoint = a.setpoint;
-          moments = take 3 moments;
-        })) }
+        look q (query.Row i) ≡ Ok (row (Some (row_shown s a moments (shown_of s)))) }
     ensures stale { (q : Condensed) → look q query.Stale ≡ Ok (alarms (list_of Stale q)) }
     ensures chatter { (q : Condensed) → look q query.Chatter ≡ Ok (alarms (list_of Chatter q)) }
     ensures refused { (q : Condensed) (i : AlarmId) → slice_get q.panel.rows i.0 ≡ None →
