@@ -1,5 +1,5 @@
 -- A bench that has the state of a world.
-use Rattle.std.specs.Prelude.{◌≡◌, ℕ, true, false, []}
+use Rattle.std.specs.Prelude.{◌≡◌, ◌≤◌, ℕ, List, length, true, false, []}
 use Rattle.alm_disk.specs.declared.disk.Disk
 use Rattle.alm_keeper.specs.declared.keeper.Keeper.{Keeper}
 use Rattle.alm_store.specs.declared.store.Store.{Ghosts}
@@ -11,9 +11,10 @@ use Rattle.alm_store.specs.Calls.{OpensBy, IsRefusedBy}
 use Rattle.alm_pipeline.specs.declared.step_event.StepEvent.{StepEvent}
 use Rattle.alm_pipeline.specs.declared.step_event.StepEvent.TheVariants.{Opened, Unopened}
 use Rattle.alm_pipeline.specs.declared.step.Step.{Step}
-use Rattle.alm_pipeline.specs.World.{World, after_step}
-use Rattle.alm_pipeline.specs.Pace.{FitsBatches, Paces, most_more}
-use Rattle.alm_pipeline.specs.Headline.{Headline, Sight, device_alone}
+use Rattle.alm_pipeline.specs.World.{World, Answers, after_step}
+use Rattle.alm_pipeline.specs.Pace.{FitsBatches, Paces, PacesAll, most_more}
+use Rattle.alm_pipeline.specs.Headline.{Headline, IsRun, Moves, Sight, after_steps, device_alone}
+use Rattle.alm_progress.specs.Progress.{AreReceived, AreRounds, LosesNothing, NoneFails, left_to_do, steps_of}
 use Rattle.alm_pipeline.specs.Matches.{CallsSurely, EndsAfter, MatchesOpenWorld, sight_in}
 
 module _ {D : Type 0} {g : Ghosts (Keeper D) D} {d : Disk.Ghosts D} where
@@ -99,3 +100,24 @@ module _ {D : Type 0} {g : Ghosts (Keeper D) D} {d : Disk.Ghosts D} where
 
   abbrev pub IsReopened : Bench D D g d → StepEvent → Bench D D g d → Type 0
   IsReopened old event new = Reopens old.setup event new.setup
+
+  -- one step of the bench is a step of the world, with this answer, also for its device. The bench then has the world after it, and
+  -- so does whatever a crash leaves
+  pub record IsWorldStep (w : World) (step : Step) (event : StepEvent) (old new : Bench D D g d) : Type 0 where
+    pub answer : Answers w step event
+    pub moves : Moves StandsFor IsLastEpoch w step event (bench_sight old) (bench_sight new)
+    pub stands : MatchesBench (after_step w step event) new
+    pub headline : Headline StandsFor IsLastEpoch (after_step w step event) (bench_sight new).state
+    -- the commit of a held batch ends: at most `most_more` of its calls return More, and each leaves one less
+    pub paces : (more : ℕ) → IsPaced more w old → StepsPaced w step event more new
+
+  -- these steps are a run of the world, with this trace
+  pub record IsWorldRun (w : World) (steps : List Step) (trace : List StepEvent) (old new : Bench D D g d) : Type 0 where
+    pub run : IsRun StandsFor IsLastEpoch w (bench_sight old) steps trace (bench_sight new)
+    pub stands : MatchesBench (after_steps w steps trace) new
+    -- each commit in it ends: at most `most_more` of a batch's calls return More
+    pub paces : (more : ℕ) → IsPaced more w old → (last : ℕ) × PacesAll most_more w more steps trace last × IsPaced last (after_steps w steps trace) new
+    -- so every fair schedule answers all. If the steps are as many rounds as steps were left, and no call fails, each request that was
+    -- sent before them is received
+    pub answered : (slots more : ℕ) (rounds : List (List Step)) → IsPaced more w old → LosesNothing w → AreRounds slots most_more rounds
+        → left_to_do slots most_more w more ≤ length rounds → steps ≡ steps_of rounds → NoneFails trace → AreReceived slots most_more w (after_steps w steps trace)

@@ -1,10 +1,10 @@
 //! A bench: all parts over a device, driven step by step.
 
-ghost use Rattle.std.specs.Prelude.{◌≡◌, ◌↔◌, ◌≤◌, ℕ, List, length, false, IfOk, IfErr, MatchResult, OnErr};
+ghost use Rattle.std.specs.Prelude.{◌≡◌, ◌↔◌, ℕ, false, IfOk, IfErr, OnErr};
 ghost use Rattle.alm_disk.specs.Device.{IsImage};
 ghost use Rattle.alm_model.specs.Plant.{Condensed};
 ghost use Rattle.alm_keeper.specs.AsStore.{StandsFor, IsLastEpoch};
-ghost use Rattle.alm_store.specs.Opening.{HasCause};
+ghost use Rattle.alm_store.specs.Opening.{IsGivenBack};
 ghost use Rattle.alm_pipeline.specs.World.{World, Answers, after_step, first, closed_world};
 ghost use Rattle.alm_pipeline.specs.declared.step.Step.{Step};
 ghost use Rattle.alm_pipeline.specs.declared.step.Step.TheVariants as S;
@@ -34,11 +34,8 @@ where
 impl<D: Crashable + Drop> Bench<D> {
     ghost use Rattle.alm_pipeline.specs.Matches.{IsInner};
     ghost use Rattle.alm_disk.specs.Failures.{HasFailed};
-    ghost use Rattle.alm_store.specs.Calls.{IsRefusedBy};
-    ghost use Rattle.alm_bench.specs.Stands.{MatchesBench, bench_sight, HasDevice, IsHonest, IsPaced, StepsPaced, NextIsSure, IsOpenedFrom, IsReopened};
-    ghost use Rattle.alm_pipeline.specs.Headline.{Headline, Moves, IsRun, after_steps, device_alone};
-    ghost use Rattle.alm_pipeline.specs.Pace.{Paces, PacesAll, most_more};
-    ghost use Rattle.alm_progress.specs.Progress.{AreReceived, AreRounds, LosesNothing, NoneFails, left_to_do, steps_of};
+    ghost use Rattle.alm_bench.specs.Stands.{IsWorldRun, IsWorldStep, MatchesBench, bench_sight, HasDevice, IsHonest, IsPaced, StepsPaced, NextIsSure, IsOpenedFrom, IsReopened};
+    ghost use Rattle.alm_pipeline.specs.Headline.{Headline, Moves, device_alone};
     ghost use Rattle.alm_bench.specs.StandOnly.{StandOnly};
     ghost use Rattle.alm_pipeline.specs.declared.step.Step.TheVariants as S;
     ghost use Rattle.alm_pipeline.specs.declared.step_event.StepEvent.TheVariants as E;
@@ -66,23 +63,16 @@ impl<D: Crashable + Drop> Bench<D> {
         ensures stands { (plant : Condensed) → StandOnly (D.state disk) plant →
             IfOk result (λ bench. IsHonest bench → MatchesBench (first plant) bench) }
         ensures paced { IfOk result (λ bench. (plant : Condensed) → IsPaced 0 (first plant) bench) }
-        /// The calls made on this device are a sync and reads, and no others; if it is refused, up to its fault.
-        ensures made { MatchResult result (IsOpenedFrom disk)
-            (λ e. IsRefusedBy e.0 D.serves disk e.1) }
+        /// The calls made on this device are a sync and reads, and no others.
+        ensures made { IfOk result (IsOpenedFrom disk) }
         /// It reads as one of the images before, and no place is pending.
         ensures device { D.honest disk →
             IfOk result
             (λ bench. IsImage (D.state disk) (bench_sight bench).state.bytes ×
             ((place : ℕ) → (bench_sight bench).state.pending place ≡ false)) }
         ensures there { IfOk result (λ bench. HasDevice bench) }
-        ensures honest { MatchResult result (λ bench. IsHonest bench → D.honest disk)
-            (λ e. D.honest e.1 → D.honest disk) }
-        ensures no_new_image { D.honest disk →
-            IfErr result
-            (λ e. (image : List ℕ) → IsImage (D.state e.1) image → IsImage (D.state disk) image) }
-        ensures cause { IfErr result
-            (λ e. D.honest e.1 →
-            HasCause StandsFor (D.state disk) e.0 (D.failures disk) (D.failures e.1)) }
+        ensures honest { IfOk result (λ bench. IsHonest bench → D.honest disk) }
+        ensures refused { IfErr result (λ e. IsGivenBack D.Disk StandsFor e.0 disk e.1) }
     {
         match Pipeline::<Keeper<D>>::open(alloc, disk) {
             Ok(pipeline) => Ok(Bench {
@@ -305,16 +295,8 @@ impl<D: Crashable + Drop> Bench<D> {
     pub fn step(&mut self, alloc: Global, step: &Step) -> StepEvent
         /// A device that keeps to the model after the step did so before.
         ensures honest { IsHonest self.new → IsHonest self.old }
-        ensures answer { IsHonest self.new → (w : World) → MatchesBench w self.old →
-            Answers w step.now result }
-        ensures stands { IsHonest self.new → (w : World) → MatchesBench w self.old →
-            MatchesBench (after_step w step.now result) self.new }
-        ensures moves { IsHonest self.new → (w : World) → MatchesBench w self.old →
-            Moves StandsFor IsLastEpoch w step.now result (bench_sight self.old) (bench_sight self.new) }
-        /// The commit of a held batch ends: at most `most_more` of its calls return More, and each leaves one less.
-        ensures paces { IsHonest self.new → (w : World) (more : ℕ) → MatchesBench w self.old →
-            IsPaced more w self.old → (next : ℕ) × Paces most_more w step.now result more next ×
-            IsPaced next (after_step w step.now result) self.new }
+        ensures steps { IsHonest self.new → (w : World) → MatchesBench w self.old →
+            IsWorldStep w step.now result self.old self.new }
         // A call of the device fails only if the device failed in it, or if the last epoch has no room for the held batch.
         ensures sure { step.now ≡ S.Call → result ≡ E.Failed → NextIsSure self.old → (w : World) →
             MatchesBench w self.old →
@@ -324,9 +306,6 @@ impl<D: Crashable + Drop> Bench<D> {
         ensures there { HasDevice self.old → HasDevice self.new }
         ensures before { (w : World) → MatchesBench w self.old →
             Headline StandsFor IsLastEpoch w (bench_sight self.old).state }
-        ensures headline { IsHonest self.new → (w : World) → MatchesBench w self.old →
-            Headline StandsFor IsLastEpoch (after_step w step.now result)
-            (bench_sight self.new).state }
     {
         // for the proof: what a crash leaves before the step
         self.images();
@@ -343,25 +322,7 @@ impl<D: Crashable + Drop> Bench<D> {
         ensures honest { IsHonest self.new → IsHonest self.old }
         ensures run { IfOk result
             (λ trace. IsHonest self.new → (w : World) → MatchesBench w self.old →
-            IsRun StandsFor IsLastEpoch w (bench_sight self.old) steps.now trace.items
-            (bench_sight self.new)) }
-        ensures stands { IfOk result
-            (λ trace. IsHonest self.new → (w : World) → MatchesBench w self.old →
-            MatchesBench (after_steps w steps.now trace.items) self.new) }
-        /// Each commit in it ends: at most `most_more` of a batch's calls return More.
-        ensures paces { IfOk result
-            (λ trace. IsHonest self.new → (w : World) (more : ℕ) → MatchesBench w self.old →
-            IsPaced more w self.old → (last : ℕ) × PacesAll most_more w more steps.now trace.items last ×
-            IsPaced last (after_steps w steps.now trace.items) self.new) }
-        /// So every fair schedule answers all. If the steps are as many rounds as steps were left, and no call fails, each
-        /// request that was sent before them is received.
-        ensures answered { IfOk result
-            (λ trace. IsHonest self.new → (slots more : ℕ) (w : World)
-            (rounds : List (List Step)) → MatchesBench w self.old → IsPaced more w self.old →
-            LosesNothing w → AreRounds slots most_more rounds →
-            left_to_do slots most_more w more ≤ length rounds → steps.now ≡ steps_of rounds →
-            NoneFails trace.items →
-            AreReceived slots most_more w (after_steps w steps.now trace.items)) }
+            IsWorldRun w steps.now trace.items self.old self.new) }
         ensures there { HasDevice self.old → HasDevice self.new }
         ensures memory { OnErr result (self.new ≡ self.old) }
     {

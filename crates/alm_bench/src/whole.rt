@@ -1,16 +1,12 @@
 //! The whole life of a device under any steps.
 
-ghost use Rattle.std.specs.Prelude.{◌≡◌, ◌⊎◌, ◌↔◌, ℕ, List, IfOk, IfErr};
+ghost use Rattle.std.specs.Prelude.{ℕ, List, IfOk, IfErr};
 ghost use Rattle.alm_disk.specs.Device.{IsImage};
-ghost use Rattle.alm_codec.specs.declared.version.Version.TheVariants.{V02};
-ghost use Rattle.alm_keeper.specs.Formatted.{IsFormatted, IsLeftBy};
 ghost use Rattle.alm_model.specs.New.{new_plant};
 ghost use Rattle.alm_model.specs.Plant.{Condensed};
-ghost use Rattle.alm_keeper.specs.AsStore.{StandsFor, IsLastEpoch};
 ghost use Rattle.alm_pipeline.specs.World.{first, closed_world};
-ghost use Rattle.alm_store.specs.declared.phase.Phase.{Phase};
-ghost use Rattle.alm_pipeline.specs.Headline.{IsRun, device_alone};
 ghost use Rattle.alm_pipeline.specs.Pace.{PacesAll, most_more};
+ghost use Rattle.alm_bench.specs.Lived.{IsLeftAlone, IsLifeOf, IsNewFor, IsUnlived};
 ghost use Rattle.alm_bench.specs.StandOnly.{StandOnly};
 ghost use Rattle.alm_bench.specs.Traced.{KeepsTold};
 
@@ -34,13 +30,8 @@ pub fn life<D: Crashable + Drop>(
     ensures honest { IfOk result (λ lived. D.honest lived.1 → D.honest disk) }
     ensures run { (plant : Condensed) → StandOnly (D.state disk) plant →
         IfOk result
-        (λ lived. D.honest lived.1 → (at : Phase) × (n : ℕ) ×
-        IsRun StandsFor IsLastEpoch (closed_world (first plant))
-        (device_alone (D.state disk) (D.failures disk) 0) steps.now lived.0.items
-        (record
-        { state = D.state lived.1; failures = D.failures lived.1; phase = at; refused = n })) }
-    // By the trace alone: whatever a crash leaves of it encodes the plant of a prefix of the actions that the trace accepted. The
-    // prefix reaches all that it reported.
+        (λ lived. D.honest lived.1 → IsLifeOf D.Disk plant steps.now lived.0.items disk lived.1) }
+    // By the trace alone: a crash leaves the plant of a prefix of the actions that it accepted, with all that it reported.
     ensures told { (plant : Condensed) → StandOnly (D.state disk) plant →
         IfOk result
         (λ lived. D.honest lived.1 →
@@ -50,9 +41,7 @@ pub fn life<D: Crashable + Drop>(
         IfOk result
         (λ lived. D.honest lived.1 → (last : ℕ) ×
         PacesAll most_more (closed_world (first plant)) 0 steps.now lived.0.items last) }
-    ensures refused { IfErr result
-        (λ e. (D.honest disk ↔ D.honest e.1) × (D.state e.1 ≡ D.state disk) ×
-        (D.failures e.1 ≡ D.failures disk)) }
+    ensures refused { IfErr result (λ e. IsLeftAlone D.Disk disk e.1) }
 {
     let mut bench = Bench::closed(alloc, disk);
     match bench.run(alloc, steps) {
@@ -75,12 +64,9 @@ pub fn whole_life<D: Crashable + Drop>(
     // The run begins at what `format` makes of the device.
     ensures run { IfOk result
         (λ lived. D.honest lived.1 → (formatted : D) ×
-        IsFormatted D.serves D.state D.honest D.size V02 (new_plant table.now) disk formatted ×
-        StandOnly (D.state formatted) (new_plant table.now) × (at : Phase) × (n : ℕ) ×
-        IsRun StandsFor IsLastEpoch (closed_world (first (new_plant table.now)))
-        (device_alone (D.state formatted) (D.failures formatted) 0) steps.now lived.0.items
-        (record
-        { state = D.state lived.1; failures = D.failures lived.1; phase = at; refused = n })) }
+        IsNewFor D.Disk (new_plant table.now) disk formatted ×
+        StandOnly (D.state formatted) (new_plant table.now) ×
+        IsLifeOf D.Disk (new_plant table.now) steps.now lived.0.items formatted lived.1) }
     ensures told { IfOk result
         (λ lived. D.honest lived.1 → (image : List ℕ) → IsImage (D.state lived.1) image →
         KeepsTold (new_plant table.now) lived.0.items image) }
@@ -89,12 +75,7 @@ pub fn whole_life<D: Crashable + Drop>(
         PacesAll most_more (closed_world (first (new_plant table.now))) 0 steps.now lived.0.items
         last) }
     // The formatting was refused, or memory ran out when the device was formatted.
-    ensures refused { IfErr result
-        (λ e. IsLeftBy e.0 D.serves D.state D.honest D.size D.failures (new_plant table.now) disk e.1 ⊎
-        ((e.0 ≡ FormatFault.OutOfMemory) × (formatted : D) ×
-        IsFormatted D.serves D.state D.honest D.size V02 (new_plant table.now) disk formatted ×
-        (D.honest formatted ↔ D.honest e.1) × (D.state e.1 ≡ D.state formatted) ×
-        (D.failures e.1 ≡ D.failures formatted))) }
+    ensures refused { IfErr result (λ e. IsUnlived D.Disk e.0 (new_plant table.now) disk e.1) }
 {
     match format(alloc, disk, table) {
         Ok(disk) => match life(alloc, disk, steps) {

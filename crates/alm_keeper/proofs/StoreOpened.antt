@@ -1,5 +1,5 @@
 -- Why a keeper wasn't opened.
-use Rattle.std.proofs.Common.{ℕ, List, Result, Ok, Err, IfErr, MatchResult}
+use Rattle.std.proofs.Common.{ℕ, List, Result, Ok, Err, IfErr}
 use Rattle.alm_disk.specs.Device.{DeviceState, IsImage}
 use Rattle.alm_checkpoint.specs.Standing.{HasFault}
 use Rattle.alm_checkpoint.specs.declared.device_fault.DeviceFault.{DeviceFault}
@@ -20,17 +20,7 @@ cause_of state bytes (fault.Damaged half at) before now image opens counts = fau
 cause_of state bytes fault.Disk before now image opens counts = counts
 cause_of state bytes fault.OutOfMemory before now image opens counts = tt
 
--- a fact of either result makes another
-pub match_result : {A : Type 0} {E : Type 0} {P Q : A → Type 0} {R S : E → Type 0} (result : Result A E) → MatchResult result P R → ((a : A) → P a → Q a) → ((e : E) → R e → S e) → MatchResult result Q S
-match_result (Ok x) p f g = f x p
-match_result (Err e) p f g = g e p
-
--- four facts of an error make a fifth
-pub if_err : {A : Type 0} {E : Type 0} {P Q R S T : E → Type 0} (result : Result A E) → IfErr result P → IfErr result Q → IfErr result R → IfErr result S → ((e : E) → P e → Q e → R e → S e → T e) → IfErr result T
-if_err (Ok x) p q r s f = tt
-if_err (Err e) p q r s f = f e p q r s
-
--- a fact of an error that has a premise
-pub err_under : {A : Type 0} {E : Type 0} {H : Type 0} (P : E → Type 0) (result : Result A E) → (H → IfErr result P) → IfErr result (λ e. H → P e)
-err_under P (Ok x) p = tt
-err_under P (Err e) p = p
+-- a fact of an error makes another
+pub if_err : {A : Type 0} {E : Type 0} {P Q : E → Type 0} (result : Result A E) → IfErr result P → ((e : E) → P e → Q e) → IfErr result Q
+if_err (Ok x) p f = tt
+if_err (Err e) p f = f e p

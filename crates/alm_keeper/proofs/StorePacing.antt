@@ -232,3 +232,8 @@ opened_pace k idle half =
 pub if_ok : {A : Type 0} {E : Type 0} {P Q : A → Type 0} (result : Result A E) → IfOk result P → ((a : A) → P a → Q a) → IfOk result Q
 if_ok (Ok a) p f = f a p
 if_ok (Err e) p f = tt
+
+-- two facts of a result make a third
+pub if_ok_both : {A : Type 0} {E : Type 0} {P Q R : A → Type 0} (result : Result A E) → IfOk result P → IfOk result Q → ((a : A) → P a → Q a → R a) → IfOk result R
+if_ok_both (Ok a) p q f = f a p q
+if_ok_both (Err e) p q f = tt

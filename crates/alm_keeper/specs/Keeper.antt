@@ -2,6 +2,7 @@
 use Rattle.std.specs.Prelude.{◌≡◌, ◌≢◌, ◌↔◌, ℕ, ◌+◌, ◌-◌, ◌≤◌, ◌^◌, ◌==◌, min, Bool, true, false, List, [], ◌∷◌, ◌++◌, length, take, drop, Result, Ok, Err, IsErr, if◌then◌else◌}
 use Rattle.alm_types.specs.declared.action.Action.{Action}
 use Rattle.alm_types.specs.Batches.{Judged}
+use Rattle.alm_types.specs.Sizes.{most_entries}
 use Rattle.alm_model.specs.Plant.{Condensed}
 use Rattle.alm_model.specs.Step.{run}
 use Rattle.alm_disk.specs.declared.call.Call.{Call}
@@ -18,7 +19,7 @@ use Rattle.alm_segment.specs.Course.{frame_len}
 use Rattle.alm_checkpoint.specs.declared.layout.Layout.{Layout}
 use Rattle.alm_checkpoint.specs.declared.half.Half.{Half}
 use Rattle.alm_checkpoint.specs.declared.half.Half.TheVariants.{First, Second}
-use Rattle.alm_checkpoint.specs.Layouts.{header_len, head_len, half_len, image_size, other}
+use Rattle.alm_checkpoint.specs.Layouts.{header_len, head_len, half_len, image_size, longest_segment, other}
 use Rattle.alm_checkpoint.specs.Headers.{half_head_text, is_summed}
 use Rattle.alm_checkpoint.specs.Cut.{head_before}
 use Rattle.alm_checkpoint.specs.Opening.{Opened, gate_in, head_of, opened_in}
@@ -33,9 +34,9 @@ use Rattle.alm_store.specs.declared.refused.Refused.{Refused}
 use Rattle.alm_store.specs.declared.refused.Refused.TheVariants as no
 use Rattle.alm_store.specs.declared.progress.Progress.{Progress}
 use Rattle.alm_store.specs.declared.progress.Progress.TheVariants.{More, Done, Failed}
-use Rattle.alm_store.specs.Pace.{most}
+use Rattle.alm_store.specs.Pace.{largest, most}
 use Rattle.alm_keeper.specs.Batch.{tried_batch}
-use Rattle.alm_keeper.specs.Stages.{first_stage, next_stage, sent_stage, turn_stage, rest_stage, rest_work, During}
+use Rattle.alm_keeper.specs.Stages.{IsWorking, first_stage, next_stage, sent_stage, turn_stage, rest_stage, rest_work, During}
 use Rattle.alm_keeper.specs.Stand.{IsAlone, left_open}
 
 -- what a device encodes: a plant in an epoch, the version of its half, and how many bytes of the segment are left from its first
@@ -158,6 +159,22 @@ abbrev pub checkpoint_answer : Phase → ℕ → Result Unit Refused
 checkpoint_answer at.Idle epoch = if epoch + 1 == 2 ^ 64 then Err no.Exhausted else Ok tt
 checkpoint_answer at.Stopped epoch = Err no.Stopped
 checkpoint_answer phase epoch = Err no.Working
+
+-- ---- what is always so of a keeper
+
+pub record IsConsistent {D : Type 0} (k : KeeperView D) : Type 0 where
+  -- the largest image, and the longest segment
+  pub lengths : (image_size k.layout ≤ largest) × (k.layout.segment ≤ longest_segment)
+  -- the frames in the run of a checkpoint are among those of the segment
+  pub runs : IsWorking k.stage → k.work ≡ Checkpoint → (k.out ≤ k.run) × (k.run + k.stored.room ≤ half_len k.layout)
+  -- a frame has at most 256 actions, and its commit comes before a piece of an open checkpoint
+  pub frames : IsWorking k.stage → k.work ≡ Commit → (length k.asked ≤ most_entries) × (k.copying ≡ true → k.out + 1 ≤ k.run)
+  -- in version 03 a commit is under way only while the other half's gate is closed: so no damaged gate lets that one stand
+  pub alone : IsWorking k.stage → k.work ≡ Commit → IsAlone k.stored.version k.other_open
+  -- a piece of a checkpoint has a byte or more
+  pub pieces : k.stage ≡ Body → k.work ≡ Checkpoint → k.out + 1 ≤ k.run
+  -- if it is idle no checkpoint is open, and one is if it is under way
+  pub copies : (k.stage ≡ Idle → k.copying ≡ false) × (IsWorking k.stage → k.work ≡ Checkpoint → k.copying ≡ true)
 
 -- ---- what a call makes of a keeper
 

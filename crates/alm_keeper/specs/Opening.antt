@@ -1,7 +1,13 @@
 -- Opening a device.
-use Rattle.std.specs.Prelude.{◌≡◌, ℕ, List, [], Result, Ok, Err}
+use Rattle.std.specs.Prelude.{◌≡◌, ◌∷◌, ℕ, List, [], Result, Ok, Err}
+use Rattle.alm_disk.specs.Device.{IsImage}
 use Rattle.alm_disk.specs.Failures.{HasFailed}
+use Rattle.alm_disk.specs.Settled.{IsSettled}
+use Rattle.alm_disk.specs.declared.call.Call.{Call}
+use Rattle.alm_disk.specs.declared.call.Call.TheVariants.{Sync}
+use Rattle.alm_disk.specs.declared.disk.Disk as device
 use Rattle.alm_checkpoint.specs.declared.layout.Layout.{Layout}
+use Rattle.alm_checkpoint.specs.declared.half.Half.{Half}
 use Rattle.alm_checkpoint.specs.declared.half.Half.TheVariants.{First, Second}
 use Rattle.alm_keeper.specs.declared.opening.Marks.{Marks}
 use Rattle.alm_checkpoint.specs.declared.device_fault.DeviceFault.{DeviceFault}
@@ -12,12 +18,14 @@ use Rattle.alm_checkpoint.specs.Standing.{HasFault}
 use Rattle.alm_checkpoint.specs.Restoring.{IsUnrestored}
 use Rattle.alm_checkpoint.specs.Restoring.{Holds as RestoredAs}
 use Rattle.alm_checkpoint.specs.declared.restore_fault.RestoreFault.TheVariants as unrestored
+use Rattle.alm_store.specs.Calls.{AreDone, SyncsAndEndsIn}
 use Rattle.alm_store.specs.declared.open_fault.OpenFault.{OpenFault}
 use Rattle.alm_store.specs.declared.open_fault.OpenFault.TheVariants.{Unformatted, Damaged, Disk, OutOfMemory}
 use Rattle.alm_keeper.specs.declared.book.Book.{Book}
 use Rattle.alm_codec.specs.declared.asked.Asked.{Asked}
 use Rattle.alm_keeper.specs.Stand.{Ready, saying}
 use Rattle.alm_keeper.specs.Keeping.{account}
+use Rattle.alm_keeper.specs.Calls.{reads_of}
 
 abbrev pub open_fault : DeviceFault → OpenFault
 open_fault found.Unformatted = Unformatted
@@ -71,3 +79,29 @@ Restores l m image segment (Err Disk) = ⊥
 Restores l m image segment (Err OutOfMemory) = Unit {0}
 Restores l m image segment (Err Unformatted) = IsUnrestored (opened_by l m image segment) (unrestored.Damaged found.Unformatted)
 Restores l m image segment (Err (Damaged half at)) = IsUnrestored (opened_by l m image segment) (unrestored.Damaged (found.Damaged half at))
+
+module _ {D : Type 0} (d : device.Ghosts D) where
+  -- a device of which was only read: it has its size, it is settled if it was, and it kept to the model before if it does so now
+  pub record IsOnlyRead (old new : D) : Type 0 where
+    pub honest : d.honest new → d.honest old
+    pub size : d.size new ≡ d.size old
+    pub keeps : (b : List ℕ) → IsSettled (d.state old) b → IsSettled (d.state new) b
+
+  -- a sync and these reads were made of it, each was done, and no byte was written. It reads as one of the images before, and that
+  -- is the only one now
+  pub record IsOpenedBy (reads : List Call) (old new : D) : Type 0 where
+    pub made : AreDone d.serves (Sync ∷ reads) old new
+    pub honest : d.honest new → d.honest old
+    pub image : d.honest old → IsImage (d.state old) (d.state new).bytes
+    pub settled : d.honest old → IsSettled (d.state new) (d.state new).bytes
+    pub unwritten : d.honest old → (b : List ℕ) → IsImage (d.state new) b → IsImage (d.state old) b
+    pub counted : d.failures new ≡ d.failures old
+
+  -- it was refused with this fault: a sync and reads were made up to it, and no byte was written. The fault is that of the bytes, or
+  -- of the device, and only then a call of it failed
+  pub record IsUnopened (fault : OpenFault) (old new : D) : Type 0 where
+    pub made : (layout : Layout) × (half : Half) × SyncsAndEndsIn fault d.serves (reads_of layout half) old new
+    pub honest : d.honest new → d.honest old
+    pub unwritten : d.honest old → (b : List ℕ) → IsImage (d.state new) b → IsImage (d.state old) b
+    pub bytes : d.honest new → OpensAs (d.state new).bytes (Err fault)
+    pub counts : CountsAs fault (d.failures old) (d.failures new)

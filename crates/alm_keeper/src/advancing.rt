@@ -19,8 +19,7 @@ fn call_next<D: Disk>(disk: &mut D, book: &Book) -> Result<(), DiskFault>
     requires working { IsWorking book.now.stage }
     requires in_order { InOrder book.now }
     requires fits { FitsDevice book.now (D.size disk.old) }
-    ensures honest { D.honest disk.old ↔ D.honest disk.new }
-    ensures size { D.size disk.new ≡ D.size disk.old }
+    ensures same { (D.honest disk.old ↔ D.honest disk.new) × (D.size disk.new ≡ D.size disk.old) }
     ensures count { CountsFault result (D.failures disk.old) (D.failures disk.new) }
     ensures serves { D.serves disk.old (call_of (keeper_of disk.old book.now)) result disk.new }
     ensures makes { D.honest disk.old →

@@ -20,8 +20,7 @@ pub fn call<D: Disk>(
     version: Version,
 ) -> Result<(), DiskFault>
     requires working { IsWorking stage }
-    requires in_range { at + 1 + length text.now ≤ D.size disk.old }
-    requires in_memory { D.size disk.old < 2 ^ 64 }
+    requires room { (at + 1 + length text.now ≤ D.size disk.old) × (D.size disk.old < 2 ^ 64) }
     ensures honest { D.honest disk.old ↔ D.honest disk.new }
     ensures size { D.size disk.new ≡ D.size disk.old }
     ensures count { CountsFault result (D.failures disk.old) (D.failures disk.new) }

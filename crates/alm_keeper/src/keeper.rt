@@ -1,27 +1,18 @@
 //! Keepers.
 
-ghost use Rattle.std.specs.Prelude.{◌≡◌, ◌≢◌, ◌≤◌, ◌⊎◌, ◌↔◌, ◌+◌, ◌∷◌, List, ℕ, length, IsTrue, IfOk, IfErr, MatchResult, Err, true, false};
-ghost use Rattle.alm_disk.specs.declared.call.Call.{Call};
-ghost use Rattle.alm_checkpoint.specs.declared.half.Half.{Half};
-ghost use Rattle.alm_checkpoint.specs.declared.layout.Layout.{Layout};
-ghost use Rattle.alm_checkpoint.specs.Layouts.{half_len, image_size};
+ghost use Rattle.std.specs.Prelude.{◌≡◌, ◌≢◌, ◌≤◌, ◌⊎◌, ◌↔◌, ◌+◌, List, ℕ, length, IsTrue, IfOk, IfErr, Err, true, false};
 ghost use Rattle.alm_keeper.specs.Calls.{reads_of};
 ghost use Rattle.alm_keeper.specs.Batch.{accepted_asked};
 ghost use Rattle.alm_disk.specs.Device.{IsImage};
-ghost use Rattle.alm_disk.specs.Failures.{HasFailed};
-ghost use Rattle.alm_disk.specs.Settled.{IsSettled};
 ghost use Rattle.alm_model.specs.Judging.{accepted_of};
-ghost use Rattle.alm_store.specs.Calls.{IsCall, AreDone, SyncsAndEndsIn};
+ghost use Rattle.alm_store.specs.Calls.{CountsFailures, IsCall};
 ghost use Rattle.alm_keeper.specs.Stages.{IsWorking, phase_of};
-ghost use Rattle.alm_keeper.specs.Stand.{IsAlone};
 ghost use Rattle.alm_keeper.specs.Saying.{MaySay, SaysOne};
 ghost use Rattle.alm_store.specs.Advancing.{IsResting};
 ghost use Rattle.alm_keeper.specs.Formatted.{IsFormatted, IsLeftBy};
-ghost use Rattle.alm_keeper.specs.Opening.{OpensAs, CountsAs};
-ghost use Rattle.alm_keeper.specs.Keeper.{KeeperView, next, HasRoom, HasRoomFor, IsPaused, IsStoredIn, StandsWithRoom, LiesIn, MayStand, begin_answer, checkpoint_answer, BeginsCommit, BeginsCheckpoint, Progresses, call_of, payload_of, SendsPiece, CallsOnce};
-ghost use Rattle.alm_types.specs.Sizes.{most_actions, most_entries};
-ghost use Rattle.alm_store.specs.Pace.{largest};
-ghost use Rattle.alm_checkpoint.specs.Layouts.{longest_segment};
+ghost use Rattle.alm_keeper.specs.Opening.{IsOpenedBy, IsUnopened};
+ghost use Rattle.alm_keeper.specs.Keeper.{KeeperView, IsConsistent, next, HasRoom, HasRoomFor, IsPaused, IsStoredIn, StandsWithRoom, LiesIn, MayStand, begin_answer, checkpoint_answer, BeginsCommit, BeginsCheckpoint, Progresses, call_of, payload_of, SendsPiece, CallsOnce};
+ghost use Rattle.alm_types.specs.Sizes.{most_actions};
 
 use crate::advancing::advance;
 use crate::book::Book;
@@ -73,11 +64,8 @@ impl<D: Disk + Drop> Keeper<D> {
             result ≢ Progress.Failed → SendsPiece self.old self.new }
         ensures is_call { D.honest self.old.disk →
             IsCall (D.state self.old.disk) (D.state self.new.disk) }
-        ensures failed { result ≡ Progress.Failed →
-            HasFailed (D.failures self.old.disk) (D.failures self.new.disk) }
-        ensures sound { result ≢ Progress.Failed →
-            D.failures self.new.disk ≡ D.failures self.old.disk }
-        ensures count { D.failures self.old.disk ≤ D.failures self.new.disk }
+        ensures counts { CountsFailures result (D.failures self.old.disk)
+            (D.failures self.new.disk) }
         // What a crash leaves at any moment of the call.
         ensures any_moment { D.honest self.old.disk → (b : List ℕ) →
             (IsImage (D.state self.old.disk) b ⊎ IsImage (D.state self.new.disk) b) →
@@ -134,26 +122,7 @@ impl<D: Disk + Drop> Keeper<D> {
         ensures lies { D.honest self.now.disk → IsResting (phase_of self.now.stage self.now.work) →
             ∥ LiesIn self.now.half self.now.layout self.now.other_open
             (D.state self.now.disk).bytes ∥₁ }
-        // The largest image, and the longest segment.
-        ensures lengths { (image_size self.now.layout ≤ largest) ×
-            (self.now.layout.segment ≤ longest_segment) }
-        // The frames in the run of a checkpoint are among those of the segment.
-        ensures runs { IsWorking self.now.stage → self.now.work ≡ Work.Checkpoint →
-            (self.now.out ≤ self.now.run) ×
-            (self.now.run + self.now.stored.room ≤ half_len self.now.layout) }
-        // A frame has at most 256 actions, and its commit comes before a piece of an open checkpoint.
-        ensures frames { IsWorking self.now.stage → self.now.work ≡ Work.Commit →
-            (length self.now.asked ≤ most_entries) ×
-            (self.now.copying ≡ true → self.now.out + 1 ≤ self.now.run) }
-        // In version 03 a commit is under way only while the other half's gate is closed: so no damaged gate lets that one stand.
-        ensures alone { IsWorking self.now.stage → self.now.work ≡ Work.Commit →
-            IsAlone self.now.stored.version self.now.other_open }
-        // A piece of a checkpoint has a byte or more.
-        ensures pieces { self.now.stage ≡ Stage.Body → self.now.work ≡ Work.Checkpoint →
-            self.now.out + 1 ≤ self.now.run }
-        // If it is idle none is open, and one is if it is under way.
-        ensures copies { (self.now.stage ≡ Stage.Idle → self.now.copying ≡ false) ×
-            (IsWorking self.now.stage → self.now.work ≡ Work.Checkpoint → self.now.copying ≡ true) }
+        ensures order { IsConsistent self.now }
     {
         // for the proof: what is always true of a book
         let _book = &self.book;
@@ -288,27 +257,11 @@ pub fn open_store<D: Disk + Drop>(alloc: Global, disk: D) -> Result<Keeper<D>, (
     ensures stands { IfOk result
         (λ k. D.honest k.disk → StandsWithRoom k.stored (D.state k.disk).bytes) }
     ensures limit { IfOk result (λ k. k.stored.plant.panel.count ≤ most_actions) }
-    ensures settled { D.honest disk →
-        IfOk result (λ k. IsSettled (D.state k.disk) (D.state k.disk).bytes) }
-    ensures counted { IfOk result (λ k. D.failures k.disk ≡ D.failures disk) }
-    // The fault of the read.
-    ensures fault { IfErr result
-        (λ x. D.honest x.1 → OpensAs (D.state x.1).bytes (Err x.0)) }
-    ensures counts { IfErr result (λ x. CountsAs x.0 (D.failures disk) (D.failures x.1)) }
-    // What it gave may have shown that the device doesn't keep to the model; but one that does so now did before.
-    ensures honest { IfOk result (λ k. D.honest k.disk → D.honest disk) }
-    ensures honest_back { IfErr result (λ x. D.honest x.1 → D.honest disk) }
-    ensures image { D.honest disk →
-        IfOk result (λ k. IsImage (D.state disk) (D.state k.disk).bytes) }
-    ensures unwritten { D.honest disk →
-        IfOk result (λ k. (b : List ℕ) → IsImage (D.state k.disk) b → IsImage (D.state disk) b) }
-    // Which calls it makes: a sync, and five reads, of each range once; if it is refused, these up to its fault.
-    ensures made { MatchResult result
-        (λ k. AreDone D.serves (Call.Sync ∷ reads_of k.layout k.half) disk k.disk)
-        (λ x. (layout : Layout) × (half : Half) ×
-        SyncsAndEndsIn x.0 D.serves (reads_of layout half) disk x.1) }
-    ensures unwritten_back { D.honest disk →
-        IfErr result (λ x. (b : List ℕ) → IsImage (D.state x.1) b → IsImage (D.state disk) b) }
+    // Which calls it makes: a sync, and five reads, of each range once; if it is refused, these up to its fault. What they gave may
+    // have shown that the device doesn't keep to the model; but one that does so now did before.
+    ensures opened { IfOk result
+        (λ k. IsOpenedBy D.Disk (reads_of k.layout k.half) disk k.disk) }
+    ensures refused { IfErr result (λ x. IsUnopened D.Disk x.0 disk x.1) }
 {
     let mut disk = disk;
     match open_book(alloc, &mut disk) {

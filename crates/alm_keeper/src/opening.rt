@@ -13,7 +13,7 @@ ghost use Rattle.alm_checkpoint.specs.Cut.{IsLayout};
 ghost use Rattle.alm_checkpoint.specs.Opening.{layout_in};
 ghost use Rattle.alm_store.specs.Calls.{AreDone, EndIn, SyncsAndEndsIn};
 ghost use Rattle.alm_keeper.specs.Calls.{reads_of};
-ghost use Rattle.alm_keeper.specs.Opening.{CountsOpening, IsReadOf, AreMarks, MarksFrom, OpensAs, Restores};
+ghost use Rattle.alm_keeper.specs.Opening.{CountsOpening, IsOnlyRead, IsReadOf, AreMarks, MarksFrom, OpensAs, Restores};
 ghost use Rattle.alm_keeper.specs.Keeping.{InOrder, FitsDevice};
 ghost use Rattle.alm_types.specs.Sizes.{most_actions};
 
@@ -35,11 +35,9 @@ use std::alloc::Global;
 /// Fills `into` from a place on.
 fn read<D: Disk>(disk: &mut D, at: u64, into: &mut [u8]) -> Result<(), DiskFault>
     requires { at + length into.old ≤ D.size disk.old }
-    ensures honest { D.honest disk.new → D.honest disk.old }
-    ensures size { D.size disk.new ≡ D.size disk.old }
+    ensures only { IsOnlyRead D.Disk disk.old disk.new }
     ensures counts { OnOk result (D.failures disk.new ≡ D.failures disk.old) }
     ensures failed { OnErr result (HasFailed (D.failures disk.old) (D.failures disk.new)) }
-    ensures keeps { (b : List ℕ) → IsSettled (D.state disk.old) b → IsSettled (D.state disk.new) b }
     ensures given { (b : List ℕ) → D.honest disk.new → IsSettled (D.state disk.old) b →
         OnOk result (into.new ≡ part at (length into.old) b) }
     ensures long { length into.new ≡ length into.old }
@@ -50,15 +48,13 @@ fn read<D: Disk>(disk: &mut D, at: u64, into: &mut [u8]) -> Result<(), DiskFault
 
 /// The layout of a device, by its header.
 fn read_layout<D: Disk>(disk: &mut D) -> Result<Layout, OpenFault>
-    ensures honest { D.honest disk.new → D.honest disk.old }
-    ensures size { D.size disk.new ≡ D.size disk.old }
+    ensures only { IsOnlyRead D.Disk disk.old disk.new }
     ensures counts { CountsOpening result (D.failures disk.old) (D.failures disk.new) }
-    ensures keeps { (b : List ℕ) → IsSettled (D.state disk.old) b → IsSettled (D.state disk.new) b }
     ensures layout { (b : List ℕ) → D.honest disk.new → IsSettled (D.state disk.old) b →
         length b ≡ D.size disk.old → IsReadOf result (layout_in b) }
     ensures limits { IfOk result IsLayout }
-    ensures fits { IfOk result (λ l. device_len l ≤ D.size disk.new) }
-    ensures small { IfOk result (λ l. device_len l < 2 ^ 64) }
+    ensures fits { IfOk result
+        (λ l. (device_len l ≤ D.size disk.new) × (device_len l < 2 ^ 64)) }
     ensures memory { OnOk result (D.size disk.new < 2 ^ 64) }
     ensures made { OnOk result (AreDone D.serves (Call.Read 0 23 ∷ []) disk.old disk.new) }
     ensures made_back { IfErr result
@@ -93,10 +89,8 @@ struct Marks {
 fn read_marks<D: Disk>(disk: &mut D, layout: Layout) -> Result<Marks, OpenFault>
     requires fits { device_len layout ≤ D.size disk.old }
     requires small { device_len layout < 2 ^ 64 }
-    ensures honest { D.honest disk.new → D.honest disk.old }
-    ensures size { D.size disk.new ≡ D.size disk.old }
+    ensures only { IsOnlyRead D.Disk disk.old disk.new }
     ensures counts { CountsOpening result (D.failures disk.old) (D.failures disk.new) }
-    ensures keeps { (b : List ℕ) → IsSettled (D.state disk.old) b → IsSettled (D.state disk.new) b }
     ensures marks { (b : List ℕ) → D.honest disk.new → IsSettled (D.state disk.old) b →
         AreMarks layout b result }
     ensures count { IfOk result (λ m. m.head.count ≤ most_actions) }
@@ -176,10 +170,8 @@ pub fn open_book<D: Disk>(alloc: Global, disk: &mut D) -> Result<Book, OpenFault
 
 /// Reads what the device holds.
 fn read_book<D: Disk>(alloc: Global, disk: &mut D) -> Result<Book, OpenFault>
-    ensures honest { D.honest disk.new → D.honest disk.old }
-    ensures size { D.size disk.new ≡ D.size disk.old }
+    ensures only { IsOnlyRead D.Disk disk.old disk.new }
     ensures counts { CountsOpening result (D.failures disk.old) (D.failures disk.new) }
-    ensures keeps { (b : List ℕ) → IsSettled (D.state disk.old) b → IsSettled (D.state disk.new) b }
     ensures opens { (b : List ℕ) → D.honest disk.new → IsSettled (D.state disk.old) b → AreBytes b →
         length b ≡ D.size disk.old → OpensAs b result }
     ensures in_order { IfOk result InOrder }
@@ -219,10 +211,8 @@ fn read_room<D: Disk>(
     len: usize,
 ) -> Result<Vec<u8>, OpenFault>
     requires { at + len ≤ D.size disk.old }
-    ensures honest { D.honest disk.new → D.honest disk.old }
-    ensures size { D.size disk.new ≡ D.size disk.old }
+    ensures only { IsOnlyRead D.Disk disk.old disk.new }
     ensures counts { CountsOpening result (D.failures disk.old) (D.failures disk.new) }
-    ensures keeps { (b : List ℕ) → IsSettled (D.state disk.old) b → IsSettled (D.state disk.new) b }
     ensures given { (b : List ℕ) → D.honest disk.new → IsSettled (D.state disk.old) b →
         IfOk result (λ v. v.items ≡ part at len b) }
     ensures long { IfOk result (λ v. length v.items ≡ len) }
@@ -243,11 +233,9 @@ fn read_room<D: Disk>(
 /// Fills a buffer.
 fn fill<D: Disk>(disk: &mut D, at: u64, room: &mut Vec<u8>) -> Result<(), DiskFault>
     requires { at + length room.old.items ≤ D.size disk.old }
-    ensures honest { D.honest disk.new → D.honest disk.old }
-    ensures size { D.size disk.new ≡ D.size disk.old }
+    ensures only { IsOnlyRead D.Disk disk.old disk.new }
     ensures counts { OnOk result (D.failures disk.new ≡ D.failures disk.old) }
     ensures failed { OnErr result (HasFailed (D.failures disk.old) (D.failures disk.new)) }
-    ensures keeps { (b : List ℕ) → IsSettled (D.state disk.old) b → IsSettled (D.state disk.new) b }
     ensures given { (b : List ℕ) → D.honest disk.new → IsSettled (D.state disk.old) b →
         OnOk result (room.new.items ≡ part at (length room.old.items) b) }
     ensures long { length room.new.items ≡ length room.old.items }

@@ -1,5 +1,5 @@
 -- The parts of a bench are those of a world. For the proofs: no public call's reader needs it.
-use Rattle.std.specs.Prelude.{◌≡◌, ◌≢◌, ◌<◌, ◌≤◌, ◌+◌, ◌^◌, ℕ, false, List, [], ◌∷◌, ◌++◌, length, slice_get, Some}
+use Rattle.std.specs.Prelude.{◌≡◌, ◌≢◌, ◌↔◌, ◌<◌, ◌≤◌, ◌+◌, ◌^◌, ℕ, false, List, [], ◌∷◌, ◌++◌, length, slice_get, Some}
 use Rattle.alm_types.specs.declared.action.Action.{Action}
 use Rattle.alm_types.specs.declared.want.Want.{Want}
 use Rattle.alm_types.specs.declared.entry.Entry.{Entry}
@@ -24,6 +24,7 @@ use Rattle.alm_flush.specs.Flushes.{IsGivenUp}
 use Rattle.alm_flush.specs.HeldBatch.{stored_of, published_entries, to_commit}
 use Rattle.alm_seq.specs.Spares.{spares}
 use Rattle.alm_store.specs.declared.store.Store.{Ghosts}
+use Rattle.alm_disk.specs.Failures.{HasFailed}
 use Rattle.alm_disk.specs.declared.disk.Disk
 use Rattle.alm_store.specs.declared.phase.Phase.TheVariants.{Stopped}
 use Rattle.alm_pipeline.specs.declared.pipeline.Pipeline.{Pipeline}
@@ -123,6 +124,22 @@ IsInner Reopen = ⊥
 IsInner step = Unit {0}
 
 module _ {K D : Type 0} {g : Ghosts K D} {d : Disk.Ghosts D} where
+  -- its device
+  abbrev pub device_of : Pipeline K D g d → D
+  device_of p = g.disk p.flusher.store
+
+  -- the device keeps to the model after exactly if it did before
+  abbrev pub StaysHonest : (old new : Pipeline K D g d) → Type 0
+  StaysHonest old new = d.honest (device_of old) ↔ d.honest (device_of new)
+
+  -- the device failed in between
+  abbrev pub DeviceFailed : (old new : Pipeline K D g d) → Type 0
+  DeviceFailed old new = HasFailed (d.failures (device_of old)) (d.failures (device_of new))
+
+  -- the device is as it was, and so is the work on it
+  abbrev pub LeavesDevice : (old new : Pipeline K D g d) → Type 0
+  LeavesDevice old new = (d.state (device_of new) ≡ d.state (device_of old)) × (d.failures (device_of new) ≡ d.failures (device_of old)) × ((g.state new.flusher.store).phase ≡ (g.state old.flusher.store).phase)
+
   -- what contracts see of its device, if n growths were refused
   abbrev pub sight_in : ℕ → Pipeline K D g d → Sight
   sight_in n p = record { state = d.state (g.disk p.flusher.store); failures = d.failures (g.disk p.flusher.store); phase = (g.state p.flusher.store).phase; refused = n }

@@ -12,11 +12,8 @@ use alm_store::{OpenFault, Phase, Store};
 use std::alloc::Global;
 
 impl<K: Store> Pipeline<K> {
-    ghost use Rattle.std.specs.Prelude.{◌≡◌, ◌≤◌, ◌+◌, ℕ, List, false, length, IfOk, IfErr, MatchResult};
-    ghost use Rattle.alm_disk.specs.Device.{IsImage};
-    ghost use Rattle.alm_disk.specs.Failures.{HasFailed};
-    ghost use Rattle.alm_store.specs.Calls.{OpensBy, IsRefusedBy};
-    ghost use Rattle.alm_store.specs.Opening.{HasCause};
+    ghost use Rattle.std.specs.Prelude.{◌≡◌, ◌≤◌, ◌+◌, ℕ, List, length, IfOk, IfErr};
+    ghost use Rattle.alm_store.specs.Opening.{IsGivenBack, IsOpenedAs};
     ghost use Rattle.alm_types.specs.declared.action.Action.{Action};
     ghost use Rattle.alm_model.specs.Plant.{Condensed};
     ghost use Rattle.alm_model.specs.Step.{run};
@@ -72,41 +69,13 @@ impl<K: Store> Pipeline<K> {
             (λ pipeline. (base : Condensed) (kept : List Action) (floor : ℕ) →
             (K.state pipeline.flusher.store).stored ≡ run base kept →
             floor ≤ base.panel.count + length kept → MatchesOpenWorld (new_world base kept floor) pipeline) }
-        // The calls made on this device are a sync and reads, and no others; if it is refused, up to its fault.
-        ensures made { MatchResult result
-            (λ pipeline. OpensBy K.Device.serves disk (K.disk pipeline.flusher.store))
-            (λ e. IsRefusedBy e.0 K.Device.serves disk e.1) }
-        ensures image { K.Device.honest disk →
-            IfOk result
-            (λ pipeline.
-            IsImage (K.Device.state disk) (K.Device.state (K.disk pipeline.flusher.store)).bytes) }
-        ensures encodes { IfOk result
-            (λ pipeline. K.Device.honest (K.disk pipeline.flusher.store) →
-            K.recovers (K.Device.state (K.disk pipeline.flusher.store)).bytes
-            (K.state pipeline.flusher.store).stored) }
-        ensures settled { K.Device.honest disk →
-            IfOk result
-            (λ pipeline.
-            (place : ℕ) → (K.Device.state (K.disk pipeline.flusher.store)).pending place ≡ false) }
-        ensures counted { IfOk result
-            (λ pipeline.
-            K.Device.failures disk ≤ K.Device.failures (K.disk pipeline.flusher.store)) }
+        ensures opened { IfOk result
+            (λ pipeline. IsOpenedAs K.Device.Disk K.recovers
+            (K.state pipeline.flusher.store).stored disk (K.disk pipeline.flusher.store)) }
+        ensures refused { IfErr result
+            (λ e. IsGivenBack K.Device.Disk K.recovers e.0 disk e.1) }
         ensures idle { IfOk result
             (λ pipeline. (K.state pipeline.flusher.store).phase ≡ Phase.Idle) }
-        ensures honest { IfOk result
-            (λ pipeline. K.Device.honest (K.disk pipeline.flusher.store) → K.Device.honest disk) }
-        ensures honest_back { IfErr result (λ e. K.Device.honest e.1 → K.Device.honest disk) }
-        ensures no_new_image { K.Device.honest disk →
-            IfErr result
-            (λ e. (image : List ℕ) → IsImage (K.Device.state e.1) image →
-            IsImage (K.Device.state disk) image) }
-        ensures failed { IfErr result
-            (λ e.
-            e.0 ≡ OpenFault.Disk → HasFailed (K.Device.failures disk) (K.Device.failures e.1)) }
-        ensures cause { IfErr result
-            (λ e. K.Device.honest e.1 →
-            HasCause K.recovers (K.Device.state disk) e.0 (K.Device.failures disk)
-            (K.Device.failures e.1)) }
     {
         match K::open(alloc, disk) {
             Ok(store) => match Pipeline::new(alloc, store) {

@@ -42,9 +42,8 @@ pub struct Pipeline<K: Store> {
 
 impl<K: Store> Pipeline<K> {
     ghost use Rattle.std.specs.Prelude.{◌≡◌, ◌↔◌, ◌≤◌, ◌<◌, ◌+◌, ℕ, length, slice_get, IsSome};
-    ghost use Rattle.alm_disk.specs.Failures.{HasFailed};
     ghost use Rattle.alm_flush.specs.HeldBatch.{to_commit};
-    ghost use Rattle.alm_pipeline.specs.Matches.{MatchesWorld, MatchesOpenWorld, KnowsAtSlot, KnowsAll, CallFits, CallsSurely, CommitsIn, EndsAfter, StepsInPace, event_of_call, IsInner, sight_in};
+    ghost use Rattle.alm_pipeline.specs.Matches.{MatchesWorld, MatchesOpenWorld, DeviceFailed, LeavesDevice, StaysHonest, device_of, KnowsAtSlot, KnowsAll, CallFits, CallsSurely, CommitsIn, EndsAfter, StepsInPace, event_of_call, IsInner, sight_in};
     ghost use Rattle.alm_pipeline.specs.declared.step.Step.TheVariants as S;
     ghost use Rattle.alm_pipeline.specs.Headline.{Moves, Headline};
     ghost use Rattle.alm_rings.specs.Batches.{emptied_of, given_of};
@@ -148,13 +147,8 @@ impl<K: Store> Pipeline<K> {
         ensures answer { (w : World) → MatchesOpenWorld w self.old → Answers w S.Fetch result }
         ensures fits { (w : World) → MatchesOpenWorld w self.old →
             MatchesOpenWorld (after_step w S.Fetch result) self.new }
-        ensures honest { K.Device.honest (K.disk self.old.flusher.store) ↔
-            K.Device.honest (K.disk self.new.flusher.store) }
-        ensures store { (K.Device.state (K.disk self.new.flusher.store) ≡
-            K.Device.state (K.disk self.old.flusher.store)) ×
-            (K.Device.failures (K.disk self.new.flusher.store) ≡
-            K.Device.failures (K.disk self.old.flusher.store)) ×
-            ((K.state self.new.flusher.store).phase ≡ (K.state self.old.flusher.store).phase) }
+        ensures honest { StaysHonest self.old self.new }
+        ensures store { LeavesDevice self.old self.new }
         // The commit of a batch ends after at most `most_more` calls that return More.
         ensures paces { (w : World) (more : ℕ) → MatchesOpenWorld w self.old →
             EndsAfter more w self.old → StepsInPace w S.Fetch result more self.new }
@@ -179,24 +173,19 @@ impl<K: Store> Pipeline<K> {
         ensures answer { (w : World) → MatchesOpenWorld w self.old → Answers w S.Call (event_of_call result) }
         ensures fits { (w : World) → MatchesOpenWorld w self.old →
             CallFits w (event_of_call result) self.new }
-        ensures honest { K.Device.honest (K.disk self.old.flusher.store) ↔
-            K.Device.honest (K.disk self.new.flusher.store) }
-        ensures moves { K.Device.honest (K.disk self.old.flusher.store) → (w : World) →
+        ensures honest { StaysHonest self.old self.new }
+        ensures moves { K.Device.honest (device_of self.old) → (w : World) →
             MatchesOpenWorld w self.old → (refused : ℕ) →
             Moves K.recovers K.spent w S.Call (event_of_call result) (sight_in refused self.old)
             (sight_in refused self.new) }
         // If the held batch is taken, or work is under way, only the device fails.
         ensures sure { result ≡ Advance.Failed → CallsSurely self.old → (w : World) →
-            MatchesOpenWorld w self.old →
-            HasFailed (K.Device.failures (K.disk self.old.flusher.store))
-            (K.Device.failures (K.disk self.new.flusher.store)) }
+            MatchesOpenWorld w self.old → DeviceFailed self.old self.new }
         // It fails only if the device failed in it, or if a checkpoint was due in the last epoch.
         ensures late { result ≡ Advance.Failed → ¬ (K.exhausted self.new.flusher.store) →
-            (w : World) → MatchesOpenWorld w self.old →
-            HasFailed (K.Device.failures (K.disk self.old.flusher.store))
-            (K.Device.failures (K.disk self.new.flusher.store)) }
-        ensures count { K.Device.failures (K.disk self.old.flusher.store) ≤
-            K.Device.failures (K.disk self.new.flusher.store) }
+            (w : World) → MatchesOpenWorld w self.old → DeviceFailed self.old self.new }
+        ensures count { K.Device.failures (device_of self.old) ≤
+            K.Device.failures (device_of self.new) }
         // A batch is committed in a bounded number of calls.
         ensures ends { (m : ℕ) → result ≡ Advance.More →
             0 < length (to_commit self.old.flusher.held) → CommitsIn (m + 1) self.old →
@@ -315,8 +304,7 @@ impl<K: Store> Pipeline<K> {
         ensures answer { (w : World) → MatchesOpenWorld w self.old → Answers w step.now result }
         ensures fits { (w : World) → MatchesOpenWorld w self.old →
             MatchesOpenWorld (after_step w step.now result) self.new }
-        ensures honest { K.Device.honest (K.disk self.old.flusher.store) ↔
-            K.Device.honest (K.disk self.new.flusher.store) }
+        ensures honest { StaysHonest self.old self.new }
         ensures moves { (w : World) → MatchesOpenWorld w self.old →
             Moves K.recovers K.spent w step.now result (sight_in answer.old.refused self.old)
             (sight_in answer.new.refused self.new) }

@@ -13,7 +13,7 @@
 //! | [`rounds_in_order_answer_all`] | from a settled world rounds in the threads' order receive a share of each slot: five for 18 slots with 64 each |
 //!
 //! One premise is added, `Paces` (alm_pipeline, specs/Pace.antt): the steps of a held batch's commit return More a bounded number
-//! of times. The runs of a bench meet it with 646 (`paces` of `Bench::step` and `Bench::run`), and so does a request to a stack
+//! of times. The runs of a bench meet it with 646 (`paces` of `IsWorldStep` and `IsWorldRun`), and so does a request to a stack
 //! (`paced` in the clause `run` of `submit`).
 //!
 //! Not covered: that a thread runs, since a part that is never driven does nothing; and requests that never stop coming. Then a

@@ -4,12 +4,13 @@ use Rattle.alm_types.specs.declared.want.Want.{Want}
 use Rattle.alm_types.specs.declared.entry.Entry.{Entry}
 use Rattle.alm_types.specs.declared.verdict.Verdict.{Verdict}
 use Rattle.alm_model.specs.Plant.{Condensed}
-use Rattle.alm_model.specs.Judging.{accepted_of, when_accepted}
+use Rattle.alm_model.specs.Judging.{accepted_of, verdict_of, when_accepted}
 use Rattle.alm_disk.specs.Device.{DeviceState}
 use Rattle.alm_disk.specs.declared.disk.Disk
 use Rattle.alm_store.specs.declared.store.Store.{Ghosts}
 use Rattle.alm_flush.specs.declared.held.Held as H
 use Rattle.alm_flush.specs.HeldBatch.{waiting_of}
+use Rattle.alm_desk.specs.Answers.{request}
 use Rattle.alm_desk.specs.declared.judged_request.JudgedRequest.{JudgedRequest}
 use Rattle.alm_desk.specs.declared.stopped.Stopped.{Stopped}
 use Rattle.alm_pipeline.specs.declared.step.Step.{Step}
@@ -17,7 +18,7 @@ use Rattle.alm_pipeline.specs.declared.step.Step.TheVariants.{Send, Take, Seal, 
 use Rattle.alm_pipeline.specs.declared.step_event.StepEvent.{StepEvent}
 use Rattle.alm_pipeline.specs.declared.step_event.StepEvent.TheVariants.{Sent, Busy, Took, Sealed, Fetched, More, Committed, Failed, Published, Released, GaveBack, Received}
 use Rattle.alm_pipeline.specs.declared.pipeline.Pipeline.{Pipeline}
-use Rattle.alm_pipeline.specs.World.{World, Nothing, Held, Answers, after_step, with_at}
+use Rattle.alm_pipeline.specs.World.{World, Nothing, Held, Answers, after_step, live, with_at}
 use Rattle.alm_pipeline.specs.Pace.{PacesAll, most_more}
 use Rattle.alm_pipeline.specs.Headline.{Sight, Headline, Moves, IsRun, after_steps}
 use Rattle.alm_pipeline.specs.Matches.{MatchesOpenWorld, sight_in}
@@ -130,6 +131,20 @@ module _ {K D : Type 0} {g : Ghosts K D} {d : Disk.Ghosts D} where
   -- for the proofs: these steps, with these answers, lead through a pipeline from one world to another
   abbrev pub IsWay : World → List Step → List StepEvent → World → (old new : Pipeline K D g d) → Type 0
   IsWay w steps trace w' old new = Leads g.recovers g.spent (d.honest (g.disk old.flusher.store)) w (sight_of old) steps trace w' (sight_of new)
+
+  -- for the proofs: a request was sent and judged, and its batch is held, with this verdict
+  abbrev pub IsHandedIn : World → (slot : ℕ) → Want → (old new : Pipeline K D g d) → Type 0
+  IsHandedIn w slot want old new =
+      (serial : ℕ) × (v : Verdict) × (v ≡ verdict_of (live w) (request slot want)) × (serial ≡ length (w.sent slot) + 1) × MatchesOpenWorld (handed_in w slot want v) new × IsWay w (hand_in_steps slot want) (hand_in_events serial v) (handed_in w slot want v) old new
+
+  -- for the proofs: the calls of a commit, the last with this answer, lead to a world
+  abbrev pub IsCommitWay : World → StepEvent → World → (old new : Pipeline K D g d) → Type 0
+  IsCommitWay w event w' old new = (n : ℕ) × (n < commit_calls) × IsWay w (calls n ++ (Call ∷ [])) (went_on n ++ (event ∷ [])) w' old new
+
+  -- for the proofs: the stored batch was shown, and its reply received, with its verdict and its number
+  abbrev pub IsHandedOut : World → (slot : ℕ) → Want → Verdict → JudgedRequest → (old new : Pipeline K D g d) → Type 0
+  IsHandedOut w slot want v j old new =
+      (j.verdict ≡ v) × (w' : World) × Rests w' new × (live w' ≡ live (handed_in w slot want v)) × (j.number ≡ (live w').panel.count) × IsWay (stored_world w slot want v) (answer_steps slot) (answer_events slot (length (w.sent slot) + 1) v j.number) w' old new
 
   -- A slot's request went through it as a run of the world's steps, and with an honest device as one of the headline's. The calls of
   -- its commit meet the pace

@@ -1,21 +1,20 @@
 //! One request through a pipeline: a run of the world's steps.
 
-ghost use Rattle.std.specs.Prelude.{◌≡◌, ◌↔◌, ◌<◌, ◌≤◌, ◌+◌, ◌^◌, ◌∷◌, ◌++◌, [], ℕ, List};
+ghost use Rattle.std.specs.Prelude.{◌≡◌, ◌<◌, ◌≤◌, ◌+◌, ◌^◌, ◌∷◌, [], List};
 ghost use Rattle.std.specs.Prelude.{false, length, IsTrue, IfSome, IsNone, IfOk, IfErr};
 ghost use Rattle.alm_types.specs.declared.entry.Entry.{Entry};
 ghost use Rattle.alm_types.specs.declared.verdict.Verdict.{Verdict};
 ghost use Rattle.alm_model.specs.Accept.{accept};
 ghost use Rattle.alm_model.specs.Judging.{accepted_of, verdict_of};
-ghost use Rattle.alm_disk.specs.Failures.{HasFailed};
 ghost use Rattle.alm_desk.specs.Answers.{request};
 ghost use Rattle.alm_desk.specs.Backends.{judged_on, if_accepted};
 ghost use Rattle.alm_types.specs.Sizes.{most_entries};
 ghost use Rattle.alm_pipeline.specs.declared.step.Step.TheVariants as S;
 ghost use Rattle.alm_pipeline.specs.declared.step_event.StepEvent.TheVariants as E;
 ghost use Rattle.alm_pipeline.specs.World.{World, Held, after_step, live, closed_world};
-ghost use Rattle.alm_pipeline.specs.Matches.{MatchesWorld, MatchesOpenWorld};
-ghost use Rattle.alm_stack.specs.Exchanges.{IsIdle, IsExchange, IsWay, Rests, MayWait};
-ghost use Rattle.alm_stack.specs.Exchanges.{commit_calls, calls, went_on, hand_in_steps, hand_in_events, answer_steps, answer_events, handed_in, stored_world};
+ghost use Rattle.alm_pipeline.specs.Matches.{MatchesWorld, MatchesOpenWorld, DeviceFailed, StaysHonest, device_of};
+ghost use Rattle.alm_stack.specs.Exchanges.{IsCommitWay, IsExchange, IsHandedIn, IsHandedOut, IsIdle, IsWay, Rests, MayWait};
+ghost use Rattle.alm_stack.specs.Exchanges.{calls, stored_world};
 
 use alm_desk::{JudgedRequest, Stopped};
 use alm_flush::Advance;
@@ -30,15 +29,11 @@ const MOST_CALLS: u32 = 647;
 ///
 /// Its clauses also say what a crash leaves before each step.
 fn hand_in<K: Store>(pipeline: &mut Pipeline<K>, slot: Slot, want: Want) -> bool
-    ensures honest { K.Device.honest (K.disk pipeline.old.flusher.store) ↔
-        K.Device.honest (K.disk pipeline.new.flusher.store) }
-    ensures failures { K.Device.failures (K.disk pipeline.new.flusher.store) ≡
-        K.Device.failures (K.disk pipeline.old.flusher.store) }
+    ensures honest { StaysHonest pipeline.old pipeline.new }
+    ensures failures { K.Device.failures (device_of pipeline.new) ≡
+        K.Device.failures (device_of pipeline.old) }
     ensures handed { IsTrue result → (w : World) → Rests w pipeline.old →
-        (serial : ℕ) × (v : Verdict) × (v ≡ verdict_of (live w) (request slot want)) ×
-        (serial ≡ length (w.sent slot) + 1) × MatchesOpenWorld (handed_in w slot want v) pipeline.new ×
-        IsWay w (hand_in_steps slot want) (hand_in_events serial v) (handed_in w slot want v)
-        pipeline.old pipeline.new }
+        IsHandedIn w slot want pipeline.old pipeline.new }
     ensures spent { result ≡ false → (w : World) → Rests w pipeline.old →
         (2 ^ 64 ≤ length (w.sent slot) + 1) × MatchesOpenWorld w pipeline.new ×
         IsWay w (S.Send slot want ∷ []) (E.Busy ∷ []) w pipeline.old pipeline.new }
@@ -65,27 +60,20 @@ fn hand_in<K: Store>(pipeline: &mut Pipeline<K>, slot: Slot, want: Want) -> bool
 
 /// Makes device calls until the fetched batch is committed: whether that was done.
 fn commit<K: Store>(pipeline: &mut Pipeline<K>) -> bool
-    ensures honest { K.Device.honest (K.disk pipeline.old.flusher.store) ↔
-        K.Device.honest (K.disk pipeline.new.flusher.store) }
-    ensures count { K.Device.failures (K.disk pipeline.old.flusher.store) ≤
-        K.Device.failures (K.disk pipeline.new.flusher.store) }
+    ensures honest { StaysHonest pipeline.old pipeline.new }
+    ensures count { K.Device.failures (device_of pipeline.old) ≤
+        K.Device.failures (device_of pipeline.new) }
     ensures done { IsTrue result → (w : World) (entries : List Entry) → MatchesOpenWorld w pipeline.old →
         w.stage ≡ Held entries → length (accepted_of entries) ≤ most_entries →
         MatchesOpenWorld (after_step w S.Call E.Committed) pipeline.new ×
-        ((n : ℕ) × (n < commit_calls) ×
-        IsWay w (calls n ++ (S.Call ∷ [])) (went_on n ++ (E.Committed ∷ []))
-        (after_step w S.Call E.Committed) pipeline.old pipeline.new) }
+        IsCommitWay w E.Committed (after_step w S.Call E.Committed) pipeline.old pipeline.new }
     ensures failed { result ≡ false → (w : World) (entries : List Entry) → MatchesOpenWorld w pipeline.old →
         w.stage ≡ Held entries → length (accepted_of entries) ≤ most_entries →
         MatchesWorld w pipeline.new ×
-        ((n : ℕ) × (n < commit_calls) ×
-        IsWay w (calls n ++ (S.Call ∷ [])) (went_on n ++ (E.Failed ∷ [])) (closed_world w)
-        pipeline.old pipeline.new) }
+        IsCommitWay w E.Failed (closed_world w) pipeline.old pipeline.new }
     ensures cause { result ≡ false → (w : World) (entries : List Entry) → MatchesOpenWorld w pipeline.old →
         w.stage ≡ Held entries → length (accepted_of entries) ≤ most_entries →
-        ¬ (K.exhausted pipeline.new.flusher.store) →
-        HasFailed (K.Device.failures (K.disk pipeline.old.flusher.store))
-        (K.Device.failures (K.disk pipeline.new.flusher.store)) }
+        ¬ (K.exhausted pipeline.new.flusher.store) → DeviceFailed pipeline.old pipeline.new }
 {
     // for the proof: how many calls are left, by the contract of `images`
     pipeline.flusher.keeper().images();
@@ -108,10 +96,7 @@ fn hand_out<K: Store>(pipeline: &mut Pipeline<K>, slot: Slot) -> Option<JudgedRe
     ensures answered { IfSome result
         (λ j. (w : World) (want : Want) (v : Verdict) → IsIdle w →
         MatchesOpenWorld (stored_world w slot want v) pipeline.old →
-        (j.verdict ≡ v) × (w' : World) × Rests w' pipeline.new ×
-        (live w' ≡ live (handed_in w slot want v)) × (j.number ≡ (live w').panel.count) ×
-        IsWay (stored_world w slot want v) (answer_steps slot)
-        (answer_events slot (length (w.sent slot) + 1) v j.number) w' pipeline.old pipeline.new) }
+        IsHandedOut w slot want v j pipeline.old pipeline.new) }
     ensures sure { IsNone result → (w : World) (want : Want) (v : Verdict) → IsIdle w →
         MatchesOpenWorld (stored_world w slot want v) pipeline.old → ⊥ }
 {
@@ -143,10 +128,9 @@ pub fn exchange<K: Store>(
     slot: Slot,
     want: Want,
 ) -> Result<JudgedRequest, Stopped>
-    ensures honest { K.Device.honest (K.disk pipeline.old.flusher.store) ↔
-        K.Device.honest (K.disk pipeline.new.flusher.store) }
-    ensures count { K.Device.failures (K.disk pipeline.old.flusher.store) ≤
-        K.Device.failures (K.disk pipeline.new.flusher.store) }
+    ensures honest { StaysHonest pipeline.old pipeline.new }
+    ensures count { K.Device.failures (device_of pipeline.old) ≤
+        K.Device.failures (device_of pipeline.new) }
     ensures judged { IfOk result (λ j. (w : World) → Rests w pipeline.old →
         (j ≡ judged_on (live w) (request slot want)) × (w' : World) × Rests w' pipeline.new ×
         (live w' ≡ if_accepted (live w) (accept (live w).panel (request slot want)))) }
@@ -155,9 +139,7 @@ pub fn exchange<K: Store>(
         MayWait pipeline.new.flusher.held (verdict_of (live w) (request slot want))) }
     ensures cause { IfErr result
         (λ _. (w : World) → Rests w pipeline.old → ¬ (K.exhausted pipeline.new.flusher.store) →
-        length (w.sent slot) + 1 < 2 ^ 64 →
-        HasFailed (K.Device.failures (K.disk pipeline.old.flusher.store))
-        (K.Device.failures (K.disk pipeline.new.flusher.store))) }
+        length (w.sent slot) + 1 < 2 ^ 64 → DeviceFailed pipeline.old pipeline.new) }
     // A run of the world's steps, of which the answer is the reply.
     ensures run { (w : World) → Rests w pipeline.old →
         IsExchange w slot want pipeline.old pipeline.new result }

@@ -33,12 +33,11 @@ pub struct StackOver<K: Store> {
 }
 
 impl<K: Store> StackOver<K> {
-    ghost use Rattle.std.specs.Prelude.{◌≡◌, ◌≤◌, ◌↔◌, ℕ, List, [], ◌∷◌, IfOk, IfErr, MatchResult, Some, Contains, false};
+    ghost use Rattle.std.specs.Prelude.{◌≡◌, ◌↔◌, ℕ, List, [], ◌∷◌, IfOk, IfErr, Some, Contains};
     ghost use Rattle.alm_model.specs.Plant.{Condensed};
     ghost use Rattle.alm_disk.specs.Device.{IsImage};
     ghost use Rattle.alm_disk.specs.Failures.{HasFailed};
-    ghost use Rattle.alm_store.specs.Calls.{OpensBy, IsRefusedBy};
-    ghost use Rattle.alm_store.specs.Opening.{HasCause};
+    ghost use Rattle.alm_store.specs.Opening.{IsGivenBack, IsOpenedAs};
     ghost use Rattle.alm_pipeline.specs.World.{first};
     ghost use Rattle.alm_stack.specs.Stacks.{stands_of, kept_of, store_of, RunsIn};
 
@@ -46,40 +45,17 @@ impl<K: Store> StackOver<K> {
     ///
     /// The device is returned if it encodes no plant, if it failed, or if out of memory.
     pub fn open(alloc: Global, disk: K::Device) -> Result<StackOver<K>, (OpenFault, K::Device)>
-        // The calls made on this device are a sync and reads, and no others; if it is refused, up to its fault.
-        ensures made { MatchResult result (λ s. OpensBy K.Device.serves disk (K.disk (store_of s)))
-            (λ x. IsRefusedBy x.0 K.Device.serves disk x.1) }
-        // It reads as one of the images before, and that encodes the plant, if what it gave was that.
-        ensures image { K.Device.honest disk →
-            IfOk result
-            (λ s. IsImage (K.Device.state disk) (K.Device.state (K.disk (store_of s))).bytes) }
-        ensures encodes { IfOk result
-            (λ s. K.Device.honest (K.disk (store_of s)) →
-            K.recovers (K.Device.state (K.disk (store_of s))).bytes (K.state (store_of s)).stored) }
-        ensures settled { K.Device.honest disk →
-            IfOk result
-            (λ s. (place : ℕ) → (K.Device.state (K.disk (store_of s))).pending place ≡ false) }
+        ensures opened { IfOk result
+            (λ s. IsOpenedAs K.Device.Disk K.recovers (K.state (store_of s)).stored disk
+            (K.disk (store_of s))) }
+        ensures refused { IfErr result
+            (λ x. IsGivenBack K.Device.Disk K.recovers x.0 disk x.1) }
         ensures stands { IfOk result
             (λ s. (stands_of s ≡ Some (K.state (store_of s)).stored) ×
             (kept_of s ≡ (K.state (store_of s)).stored ∷ [])) }
         // It begins in the first world of that plant.
         ensures world { IfOk result (λ s. RunsIn (first (K.state (store_of s)).stored) s) }
         ensures failures { IfOk result (λ s. s.failures ≡ 0) }
-        ensures counted { IfOk result
-            (λ s. K.Device.failures disk ≤ K.Device.failures (K.disk (store_of s))) }
-        ensures honest { IfOk result
-            (λ s. K.Device.honest (K.disk (store_of s)) → K.Device.honest disk) }
-        ensures honest_back { IfErr result (λ x. K.Device.honest x.1 → K.Device.honest disk) }
-        ensures unwritten_back { K.Device.honest disk →
-            IfErr result
-            (λ x. (b : List ℕ) → IsImage (K.Device.state x.1) b → IsImage (K.Device.state disk) b) }
-        ensures failed { IfErr result
-            (λ x.
-            x.0 ≡ OpenFault.Disk → HasFailed (K.Device.failures disk) (K.Device.failures x.1)) }
-        ensures cause { IfErr result
-            (λ x. K.Device.honest x.1 →
-            HasCause K.recovers (K.Device.state disk) x.0 (K.Device.failures disk)
-            (K.Device.failures x.1)) }
     {
         match Pipeline::<K>::open(alloc, disk) {
             Ok(pipeline) => Ok(StackOver {

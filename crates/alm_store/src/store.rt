@@ -13,17 +13,16 @@ use std::alloc::Global;
 
 /// A store of actions over a device.
 pub trait Store: Drop {
-    ghost use Rattle.std.specs.Prelude.{◌≡◌, ◌≢◌, ◌⊎◌, ◌↔◌, ◌<◌, ◌≤◌, ◌+◌, ◌*◌, ℕ, false, List, length, None, IsSome, IsOk, IfOk, IfErr, OnOk, OnErr, IsTrue, MatchResult};
+    ghost use Rattle.std.specs.Prelude.{◌≡◌, ◌≢◌, ◌⊎◌, ◌↔◌, ◌<◌, ◌≤◌, ◌+◌, ◌*◌, ℕ, List, length, None, IsSome, IsOk, IfOk, IfErr, OnOk, OnErr, IsTrue};
     ghost use Rattle.alm_types.specs.declared.action.Action.{Action};
     ghost use Rattle.alm_disk.specs.Device.{DeviceState, AreBytes, IsImage};
-    ghost use Rattle.alm_disk.specs.Failures.{HasFailed};
     ghost use Rattle.alm_model.specs.Plant.{Condensed};
     ghost use Rattle.alm_model.specs.Judging.{accepted_of};
     ghost use Rattle.alm_model.specs.Rules.{AllAdmitted, KeepsRules};
     ghost use Rattle.alm_store.specs.declared.phase.Phase.TheVariants.{Idle, Committing, Stopped};
     ghost use Rattle.alm_store.specs.Advancing.{Advanced, CommitIsBegun, KeepsStored, CommitIsNotBegun, CheckpointIsNotOpened, IsCheckpointing, IsResting, CheckpointIsOpened, TakesOn};
-    ghost use Rattle.alm_store.specs.Calls.{CountsFailures, IsCall, MakesOne, OpensBy, IsRefusedBy};
-    ghost use Rattle.alm_store.specs.Opening.{HasCause};
+    ghost use Rattle.alm_store.specs.Calls.{CountsFailures, IsCall, MakesOne};
+    ghost use Rattle.alm_store.specs.Opening.{IsGivenBack, IsOpenedAs};
     ghost use Rattle.alm_store.specs.Pace.{most_calls};
     ghost use Rattle.alm_types.specs.Sizes.{most_entries};
     ghost use Rattle.alm_store.specs.Pacing.{Goes, KeepsPace, SamePace, TakesAny};
@@ -57,43 +56,14 @@ pub trait Store: Drop {
 
     /// Opens the plant that the device encodes: a sync comes first, and no byte is written.
     fn open(alloc: Global, from: Self::Device) -> Result<Self, (OpenFault, Self::Device)>
-        /// The calls made on this device are a sync and reads, and no others; if it is refused, up to its fault.
-        ensures made { MatchResult result (λ store. OpensBy Self.Device.serves from (disk store))
-            (λ e. IsRefusedBy e.0 Self.Device.serves from e.1) }
-        /// A device that keeps to the model afterwards did so before.
-        ensures honest { IfOk result
-            (λ store. Self.Device.honest (disk store) → Self.Device.honest from) }
+        ensures opened { IfOk result
+            (λ store. IsOpenedAs Self.Device.Disk recovers (state store).stored from (disk store)) }
+        ensures refused { IfErr result (λ e. IsGivenBack Self.Device.Disk recovers e.0 from e.1) }
         ensures idle { IfOk result (λ store. (state store).phase ≡ Idle) }
         ensures limit { IfOk result (λ store. (state store).stored.panel.count ≤ most_actions) }
         /// If at most half of the segment is used the store keeps its pace.
         ensures pace { IfOk result
-            (λ store. 2 * (state store).used ≤ (state store).segment → KeepsPace (state store)) }
-        /// It reads as one of the images before.
-        ensures image { Self.Device.honest from →
-            IfOk result
-            (λ store. IsImage (Self.Device.state from) (Self.Device.state (disk store)).bytes) }
-        /// What it reads as encodes the stored plant, if what it gave was that.
-        ensures encodes { IfOk result
-            (λ store. Self.Device.honest (disk store) →
-            recovers (Self.Device.state (disk store)).bytes (state store).stored) }
-        ensures settled { Self.Device.honest from →
-            IfOk result
-            (λ store. (place : ℕ) → (Self.Device.state (disk store)).pending place ≡ false) }
-        ensures counted { IfOk result
-            (λ store. Self.Device.failures from ≤ Self.Device.failures (disk store)) }
-        ensures honest_back { IfErr result (λ e. Self.Device.honest e.1 → Self.Device.honest from) }
-        ensures no_new_image { Self.Device.honest from →
-            IfErr result
-            (λ e. (image : List ℕ) → IsImage (Self.Device.state e.1) image →
-            IsImage (Self.Device.state from) image) }
-        /// Whatever the device does, its fault is returned only if it failed.
-        ensures failed { IfErr result
-            (λ e. e.0 ≡ OpenFault.Disk →
-            HasFailed (Self.Device.failures from) (Self.Device.failures e.1)) }
-        ensures cause { IfErr result
-            (λ e. Self.Device.honest e.1 →
-            HasCause recovers (Self.Device.state from) e.0 (Self.Device.failures from)
-            (Self.Device.failures e.1)) };
+            (λ store. 2 * (state store).used ≤ (state store).segment → KeepsPace (state store)) };
 
     /// The device alone.
     fn into_device(self) -> Self::Device
@@ -145,10 +115,10 @@ pub trait Store: Drop {
     fn begin(&mut self, batch: &Batch) -> Result<(), Refused>
         requires some { 0 < length (accepted_of batch.now.entries) }
         requires takes { takes self.old (accepted_of batch.now.entries) }
-        ensures disk { disk self.new ≡ disk self.old }
-        ensures exhausted { exhausted self.old ↔ exhausted self.new }
-        ensures newest { newest self.old → newest self.new }
-        ensures kept { KeepsStored (state self.old) (state self.new) }
+        ensures kept { (disk self.new ≡ disk self.old) ×
+            KeepsStored (state self.old) (state self.new) }
+        ensures standing { (exhausted self.old ↔ exhausted self.new) ×
+            (newest self.old → newest self.new) }
         ensures refused { IsResting (state self.old).phase →
             OnErr result (CommitIsNotBegun (state self.old) (state self.new)) }
         ensures begun { OnOk result
@@ -162,11 +132,11 @@ pub trait Store: Drop {
 
     /// Begins a checkpoint: no device call.
     fn begin_checkpoint(&mut self) -> Result<(), Refused>
-        ensures disk { disk self.new ≡ disk self.old }
-        ensures exhausted { exhausted self.old ↔ exhausted self.new }
-        ensures newest { newest self.old → newest self.new }
+        ensures kept { (disk self.new ≡ disk self.old) ×
+            KeepsStored (state self.old) (state self.new) }
+        ensures standing { (exhausted self.old ↔ exhausted self.new) ×
+            (newest self.old → newest self.new) }
         ensures takes { (actions : List Action) → takes self.old actions → takes self.new actions }
-        ensures kept { KeepsStored (state self.old) (state self.new) }
         ensures half { ((state self.new).used ≡ (state self.old).used) ×
             ((state self.new).segment ≡ (state self.old).segment) }
         ensures refused { OnErr result (CheckpointIsNotOpened (state self.old) (state self.new)) }
@@ -186,8 +156,8 @@ pub trait Store: Drop {
         ensures honest { Self.Device.honest (disk self.old) ↔ Self.Device.honest (disk self.new) }
         ensures call { Self.Device.honest (disk self.old) →
             IsCall (Self.Device.state (disk self.old)) (Self.Device.state (disk self.new)) }
-        ensures exhausted { exhausted self.old → exhausted self.new }
-        ensures newest { newest self.old → newest self.new }
+        ensures standing { (exhausted self.old → exhausted self.new) ×
+            (newest self.old → newest self.new) }
         ensures advanced { Advanced result (state self.old) (state self.new) }
         /// A commit adds one frame, and restarts the count; a piece goes out; and a checkpoint that is done leaves the frames in
         /// it.

@@ -21,7 +21,7 @@ returns-in-Ok-clause-run g c = λ plant all honest.
       last.phase,
       last.refused,
       subst (λ (d : Sight). IsRun StandsFor IsLastEpoch w (device_alone (g.D.Disk.state c.args.disk) (g.D.Disk.failures c.args.disk) 0) c.args.steps.now trace.items d) left
-          (subst (λ (d : Sight). IsRun StandsFor IsLastEpoch w d c.args.steps.now trace.items last) from (c.in-Ok.ensures.run end w at)),
+          (subst (λ (d : Sight). IsRun StandsFor IsLastEpoch w d c.args.steps.now trace.items last) from (c.in-Ok.ensures.run end w at).run),
     )
 
 pub returns-in-Ok-clause-told : goal.returns-in-Ok-clause-told
@@ -34,7 +34,7 @@ pub returns-in-Ok-clause-paces : goal.returns-in-Ok-clause-paces
 returns-in-Ok-clause-paces g c = λ plant all honest.
     let end = c.into_disk.ensures.honest.1 honest in
     let was = c.closed-bench.ensures.honest.1 (c.run.ensures.honest end) in
-    let paced = c.in-Ok.ensures.paces end (closed_world (first plant)) 0 (c.closed-bench.ensures.stands was plant all) (c.closed-bench.ensures.paced plant) in
+    let paced = (c.in-Ok.ensures.run end (closed_world (first plant)) (c.closed-bench.ensures.stands was plant all)).paces 0 (c.closed-bench.ensures.paced plant) in
     (paced.0, paced.1)
 
 pub returns-in-Ok-clause-honest : goal.returns-in-Ok-clause-honest

@@ -10,7 +10,7 @@ use Rattle.alm_keeper.proofs.advancing.advance.Goals as goal
 pub returns-in-Ok-clause-fits : goal.returns-in-Ok-clause-fits
 returns-in-Ok-clause-fits g c =
     let same = gone_layout c.args.book.now.stage c.args.book.now.work c.go_on.result c.args.book.now c.go_on.new.self c.go_on.ensures.goes in
-    still_fits c.args.book.now c.go_on.new.self _ same (subst (λ (n : ℕ). FitsDevice c.args.book.now n) (sym c.call_next.ensures.size) c.requires.fits)
+    still_fits c.args.book.now c.go_on.new.self _ same (subst (λ (n : ℕ). FitsDevice c.args.book.now n) (sym c.call_next.ensures.same.1) c.requires.fits)
 
 pub returns-in-Ok-clause-ends : goal.returns-in-Ok-clause-ends
 returns-in-Ok-clause-ends g c = ends_by c.go_on.result c.args.book.now c.go_on.new.self c.go_on.ensures.goes

@@ -75,8 +75,7 @@ returns-in-Retire-clause-passes g c = λ honest keeps.
 
 pub returns-in_default : goal.returns-in_default
 returns-in_default g c = record {
-  honest = c.call-in_default.ensures.honest;
-  size = c.call-in_default.ensures.size;
+  same = (c.call-in_default.ensures.honest, c.call-in_default.ensures.size);
   count = c.call-in_default.ensures.count;
   serves =
       let b = c.args.book.now in

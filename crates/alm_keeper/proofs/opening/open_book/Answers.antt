@@ -12,7 +12,7 @@ returns-in-Ok-clause-image g c = λ honest.
     let one = g.D.Disk.state c.sync.new.self in
     let s = c.in-Ok.ensures.syncs honest in
     let settled : IsSettled one one.bytes = record { reads = refl; nothing_pending = s.nothing_pending; sound = s.done } in
-    let kept = c.read_book.ensures.keeps one.bytes settled in
+    let kept = c.read_book.ensures.only.keeps one.bytes settled in
     on_ok c.read_book.result (IsImage (g.D.Disk.state c.args.disk.now) (g.D.Disk.state c.read_book.new.disk).bytes) (subst (IsImage (g.D.Disk.state c.args.disk.now)) (sym kept.reads) s.one_image)
 
 pub returns-in-Ok-clause-unwritten : goal.returns-in-Ok-clause-unwritten
@@ -20,7 +20,7 @@ returns-in-Ok-clause-unwritten g c = λ honest b image.
     let one = g.D.Disk.state c.sync.new.self in
     let s = c.in-Ok.ensures.syncs honest in
     let settled : IsSettled one one.bytes = record { reads = refl; nothing_pending = s.nothing_pending; sound = s.done } in
-    let kept = c.read_book.ensures.keeps one.bytes settled in
+    let kept = c.read_book.ensures.only.keeps one.bytes settled in
     subst (IsImage (g.D.Disk.state c.args.disk.now)) (sym (settled_image (g.D.Disk.state c.read_book.new.disk) one.bytes b kept image)) s.one_image
 
 pub returns-in-Ok-clause-settled : goal.returns-in-Ok-clause-settled
@@ -29,16 +29,16 @@ returns-in-Ok-clause-settled g c = λ honest.
     let two = g.D.Disk.state c.read_book.new.disk in
     let s = c.in-Ok.ensures.syncs honest in
     let settled : IsSettled one one.bytes = record { reads = refl; nothing_pending = s.nothing_pending; sound = s.done } in
-    let kept = c.read_book.ensures.keeps one.bytes settled in
+    let kept = c.read_book.ensures.only.keeps one.bytes settled in
     on_ok c.read_book.result (IsSettled two two.bytes) (record { reads = refl; nothing_pending = kept.nothing_pending; sound = kept.sound })
 
 pub returns-in-Ok-clause-opens : goal.returns-in-Ok-clause-opens
 returns-in-Ok-clause-opens g c = λ honest.
     let one = g.D.Disk.state c.sync.new.self in
-    let was = c.read_book.ensures.honest honest in
+    let was = c.read_book.ensures.only.honest honest in
     let s = c.in-Ok.ensures.syncs (c.sync.ensures.honest.1 was) in
     let settled : IsSettled one one.bytes = record { reads = refl; nothing_pending = s.nothing_pending; sound = s.done } in
-    let kept = c.read_book.ensures.keeps one.bytes settled in
+    let kept = c.read_book.ensures.only.keeps one.bytes settled in
     subst (λ (b : List ℕ). OpensAs b c.read_book.result) (sym kept.reads) (c.read_book.ensures.opens one.bytes honest settled (g.met.D.Disk.own_image c.sync.new.self was).bytes (g.met.D.Disk.whole c.sync.new.self was))
 
 pub returns-in-Ok-clause-made : goal.returns-in-Ok-clause-made

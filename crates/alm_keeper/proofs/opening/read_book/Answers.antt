@@ -1,4 +1,4 @@
-use Rattle.std.proofs.Common.{ℕ, [], ◌∷◌, ◌++◌, ◌∙◌, arith, subst}
+use Rattle.std.proofs.Common.{ℕ, [], ◌∷◌, ◌++◌, ◌∙◌, arith, rules, subst}
 use Rattle.alm_disk.specs.declared.call.Call.TheVariants.{Read}
 use Rattle.alm_checkpoint.specs.declared.half.Half.TheVariants.{First, Second}
 use Rattle.alm_checkpoint.specs.Layouts.{part, half_at, image_at, image_size, segment_at}
@@ -12,25 +12,28 @@ returns-in-Err-clause-opens g c = λ b honest settled bytes long. layout_fault b
 
 pub returns-in-Err-read_marks-clause-opens : goal.returns-in-Err-read_marks-clause-opens
 returns-in-Err-read_marks-clause-opens g c = λ b honest settled bytes long.
-    let h = c.read_marks.ensures.honest honest in
-    marks_fault c.in-Ok.layout b c.in-Err-read_marks.fault (c.in-Ok.ensures.layout b h settled long) (c.in-Err-read_marks.ensures.marks b honest (c.read_layout.ensures.keeps b settled))
+    let h = c.read_marks.ensures.only.honest honest in
+    marks_fault c.in-Ok.layout b c.in-Err-read_marks.fault (c.in-Ok.ensures.layout b h settled long) (c.in-Err-read_marks.ensures.marks b honest (c.read_layout.ensures.only.keeps b settled))
 
-pub returns-clause-keeps : goal.returns-clause-keeps
-returns-clause-keeps g c = λ b settled.
-    c.read_room-2.ensures.keeps b (c.read_room.ensures.keeps b (c.read_marks.ensures.keeps b (c.read_layout.ensures.keeps b settled)))
+pub returns-clause-only : goal.returns-clause-only
+returns-clause-only g c = record {
+  honest = search rules;
+  size = search rules;
+  keeps = λ b settled. c.read_room-2.ensures.only.keeps b (c.read_room.ensures.only.keeps b (c.read_marks.ensures.only.keeps b (c.read_layout.ensures.only.keeps b settled)));
+}
 
 pub returns-clause-opens : goal.returns-clause-opens
 returns-clause-opens g c = λ b honest settled bytes long.
     let l = c.in-Ok.layout in
     let m = c.in-Ok-read_marks.marks in
     -- honest before the last read, and before each that came earlier
-    let h'' = c.read_room-2.ensures.honest honest in
-    let h' = c.read_room.ensures.honest h'' in
-    let h = c.read_marks.ensures.honest h' in
+    let h'' = c.read_room-2.ensures.only.honest honest in
+    let h' = c.read_room.ensures.only.honest h'' in
+    let h = c.read_marks.ensures.only.honest h' in
     -- settled after each
-    let s = c.read_layout.ensures.keeps b settled in
-    let s' = c.read_marks.ensures.keeps b s in
-    let s'' = c.read_room.ensures.keeps b s' in
+    let s = c.read_layout.ensures.only.keeps b settled in
+    let s' = c.read_marks.ensures.only.keeps b s in
+    let s'' = c.read_room.ensures.only.keeps b s' in
     let image = c.deref.result.now in
     let segment = c.deref-2.result.now in
     opens_by b l m bytes (c.in-Ok.ensures.layout b h settled long) (c.in-Ok-read_marks.ensures.marks b h' s) image segment c.book_of.result
@@ -41,8 +44,8 @@ returns-clause-opens g c = λ b honest settled bytes long.
 pub returns-clause-fits : goal.returns-clause-fits
 returns-clause-fits g c =
     fits_by c.in-Ok.layout c.in-Ok-read_marks.marks c.deref.result.now c.deref-2.result.now (g.D.Disk.size c.read_room-2.new.disk) c.book_of.result c.book_of.ensures.restores
-    (omega (arith, c.in-Ok.ensures.fits, c.read_marks.ensures.size, c.read_room.ensures.size, c.read_room-2.ensures.size))
-    (omega (arith, c.in-Ok.ensures.memory, c.read_marks.ensures.size, c.read_room.ensures.size, c.read_room-2.ensures.size))
+    (omega (arith, c.in-Ok.ensures.fits.0, c.read_marks.ensures.only.size, c.read_room.ensures.only.size, c.read_room-2.ensures.only.size))
+    (omega (arith, c.in-Ok.ensures.memory, c.read_marks.ensures.only.size, c.read_room.ensures.only.size, c.read_room-2.ensures.only.size))
 
 pub returns-clause-made : goal.returns-clause-made
 returns-clause-made g c =

@@ -11,8 +11,8 @@ use Rattle.alm_keeper.proofs.opening.read_marks.Goals as goal
 pub returns-clause-marks : goal.returns-clause-marks
 returns-clause-marks g c = λ b honest settled.
     let l = c.args.layout in
-    let s = c.read.ensures.keeps b settled in
-    let first : c.read.new.into ≡ head_of l First b = c.in-Ok.ensures.given b (c.read-2.ensures.honest honest) settled ∙ ap (λ (n : ℕ). part n 25 b) c.half_at.ensures in
+    let s = c.read.ensures.only.keeps b settled in
+    let first : c.read.new.into ≡ head_of l First b = c.in-Ok.ensures.given b (c.read-2.ensures.only.honest honest) settled ∙ ap (λ (n : ℕ). part n 25 b) c.half_at.ensures in
     let second : c.read-2.new.into ≡ head_of l Second b = c.in-Ok-read.ensures.given b honest s ∙ ap (λ (n : ℕ). part n 25 b) c.half_at-2.ensures in
     subst (λ (p : List ℕ). MarksFrom l p (head_of l Second b) c.marks_of.result) first
     (subst (λ (p : List ℕ). MarksFrom l c.read.new.into p c.marks_of.result) second c.marks_of.ensures.marks)

@@ -14,8 +14,8 @@ returns-in-Ok-clause-answer g c = λ honest w m.
     let is = honest_as _ _ c.put.ensures.setup honest in
     let shut = still w _ _ (sym c.in-Shut.ensures.setup) m in
     let store = c.in-Ok.pipeline.flusher.store in
-    let image = c.in-Ok.ensures.image shut.1 in
-    let encodes = c.in-Ok.ensures.encodes is in
+    let image = c.in-Ok.ensures.opened.image shut.1 in
+    let encodes = c.in-Ok.ensures.opened.encodes is in
     let prefix : IsPrefixPlant w.base w.accepted w.floor store.stored.plant = (shut.2 (g.D.Disk.state store.disk).bytes image).each store.stored.plant encodes in
     (shut.0, omega (arith, prefix.enough, c.count-count.ensures), omega (arith, prefix.no_more, c.count-count.ensures))
 
@@ -25,8 +25,8 @@ returns-in-Ok-clause-stands g c = λ honest w m.
     let shut = still w _ _ (sym c.in-Shut.ensures.setup) m in
     let store = c.in-Ok.pipeline.flusher.store in
     let n = c.count-count.result in
-    let image = c.in-Ok.ensures.image shut.1 in
-    let encodes = c.in-Ok.ensures.encodes is in
+    let image = c.in-Ok.ensures.opened.image shut.1 in
+    let encodes = c.in-Ok.ensures.opened.encodes is in
     let prefix : IsPrefixPlant w.base w.accepted w.floor store.stored.plant = (shut.2 (g.D.Disk.state store.disk).bytes image).each store.stored.plant encodes in
     still (after_step w S.Reopen (E.Opened n)) _ _ (sym c.put.ensures.setup) (
       c.in-Ok.ensures.«open» w.base (take (n - w.base.panel.count) w.accepted) w.floor
@@ -42,30 +42,30 @@ returns-in-Ok-clause-moves g c = λ honest w m.
     let store = c.in-Ok.pipeline.flusher.store in
     let bytes = (g.D.Disk.state store.disk).bytes in
     let n = c.count-count.result in
-    let image = c.in-Ok.ensures.image shut.1 in
-    let encodes = c.in-Ok.ensures.encodes is in
+    let image = c.in-Ok.ensures.opened.image shut.1 in
+    let encodes = c.in-Ok.ensures.opened.encodes is in
     let prefix : IsPrefixPlant w.base w.accepted w.floor store.stored.plant = (shut.2 bytes image).each store.stored.plant encodes in
     carried w S.Reopen (E.Opened n) k k k _ _ _ _ _ refl (same_count c.args.self.now.answer _ _ c.put.ensures.answer c.in-Shut.ensures.answer) c.in-Shut.ensures.setup (sym c.put.ensures.setup)
-    (image, c.in-Ok.ensures.settled shut.1, subst (λ (q : Condensed). StandsFor bytes q) (found w.base w.accepted w.floor store.stored.plant n c.count-count.ensures prefix) encodes, c.in-Ok.ensures.idle, refl)
+    (image, c.in-Ok.ensures.opened.settled shut.1, subst (λ (q : Condensed). StandsFor bytes q) (found w.base w.accepted w.floor store.stored.plant n c.count-count.ensures prefix) encodes, c.in-Ok.ensures.idle, refl)
 
 pub returns-in-Err-clause-answer : goal.returns-in-Err-clause-answer
 returns-in-Err-clause-answer g c = λ honest w m.
     let is = honest_as _ _ c.put-in-Err.ensures.setup honest in
     let shut = still w _ _ (sym c.in-Shut.ensures.setup) m in
-    (shut.0, storage_fault StandsFor w.base w.accepted w.floor (g.D.Disk.state c.in-Shut.disk) c.in-Err.fault (g.D.Disk.failures c.in-Shut.disk) (g.D.Disk.failures c.in-Err.disk) shut.2 (c.in-Err.ensures.cause is))
+    (shut.0, storage_fault StandsFor w.base w.accepted w.floor (g.D.Disk.state c.in-Shut.disk) c.in-Err.fault (g.D.Disk.failures c.in-Shut.disk) (g.D.Disk.failures c.in-Err.disk) shut.2 (c.in-Err.ensures.refused.cause is))
 
 pub returns-in-Err-clause-stands : goal.returns-in-Err-clause-stands
 returns-in-Err-clause-stands g c = λ honest w m.
     let is = honest_as _ _ c.put-in-Err.ensures.setup honest in
     let shut = still w _ _ (sym c.in-Shut.ensures.setup) m in
-    still w _ _ (sym c.put-in-Err.ensures.setup) (shut.0, is, λ image left. shut.2 image (c.in-Err.ensures.no_new_image shut.1 image left))
+    still w _ _ (sym c.put-in-Err.ensures.setup) (shut.0, is, λ image left. shut.2 image (c.in-Err.ensures.refused.no_new_image shut.1 image left))
 
 pub returns-in-Err-clause-moves : goal.returns-in-Err-clause-moves
 returns-in-Err-clause-moves g c = λ honest w m.
     let is = honest_as _ _ c.put-in-Err.ensures.setup honest in
     let n = c.args.self.now.answer.refused in
     let shut = still w _ _ (sym c.in-Shut.ensures.setup) m in
-    carried w S.Reopen (E.Unopened c.in-Err.fault) n n n _ _ _ _ _ refl (same_count c.args.self.now.answer _ _ c.put-in-Err.ensures.answer c.in-Shut.ensures.answer) c.in-Shut.ensures.setup (sym c.put-in-Err.ensures.setup) (c.in-Err.ensures.no_new_image shut.1, c.in-Err.ensures.cause is, refl)
+    carried w S.Reopen (E.Unopened c.in-Err.fault) n n n _ _ _ _ _ refl (same_count c.args.self.now.answer _ _ c.put-in-Err.ensures.answer c.in-Shut.ensures.answer) c.in-Shut.ensures.setup (sym c.put-in-Err.ensures.setup) (c.in-Err.ensures.refused.no_new_image shut.1, c.in-Err.ensures.refused.cause is, refl)
 
 pub returns-in-Open-clause-answer : goal.returns-in-Open-clause-answer
 returns-in-Open-clause-answer g c = λ honest w m possible. shut_not_open w.closed possible (still w _ _ (sym c.in-Open.ensures.setup) m).0.opened
@@ -98,10 +98,10 @@ pub returns-in-Open-clause-there : goal.returns-in-Open-clause-there
 returns-in-Open-clause-there g c = λ h. there _ _ (sym c.put-in-Open.ensures.setup) tt
 
 pub returns-in-Ok-clause-reopened : goal.returns-in-Ok-clause-reopened
-returns-in-Ok-clause-reopened g c = reopened_between (E.Opened c.count-count.result) _ _ _ _ c.in-Shut.ensures.setup (sym c.put.ensures.setup) c.in-Ok.ensures.made
+returns-in-Ok-clause-reopened g c = reopened_between (E.Opened c.count-count.result) _ _ _ _ c.in-Shut.ensures.setup (sym c.put.ensures.setup) c.in-Ok.ensures.opened.made
 
 pub returns-in-Err-clause-reopened : goal.returns-in-Err-clause-reopened
-returns-in-Err-clause-reopened g c = reopened_between (E.Unopened c.in-Err.fault) _ _ _ _ c.in-Shut.ensures.setup (sym c.put-in-Err.ensures.setup) c.in-Err.ensures.made
+returns-in-Err-clause-reopened g c = reopened_between (E.Unopened c.in-Err.fault) _ _ _ _ c.in-Shut.ensures.setup (sym c.put-in-Err.ensures.setup) c.in-Err.ensures.refused.made
 
 pub returns-in-Open-clause-reopened : goal.returns-in-Open-clause-reopened
 returns-in-Open-clause-reopened g c = reopened_between E.Skipped _ _ _ _ c.in-Open.ensures.setup (sym c.put-in-Open.ensures.setup) refl
@@ -116,10 +116,10 @@ pub returns-in-Open-clause-paces : goal.returns-in-Open-clause-paces
 returns-in-Open-clause-paces g c = λ honest w more m e. skips_paced w S.Reopen more _ _ (sym c.in-Open.ensures.setup ∙ sym c.put-in-Open.ensures.setup) e
 
 pub returns-in-Ok-clause-honest : goal.returns-in-Ok-clause-honest
-returns-in-Ok-clause-honest g c = λ h. honest_as _ _ c.in-Shut.ensures.setup (c.in-Ok.ensures.honest (honest_as _ _ c.put.ensures.setup h))
+returns-in-Ok-clause-honest g c = λ h. honest_as _ _ c.in-Shut.ensures.setup (c.in-Ok.ensures.opened.honest (honest_as _ _ c.put.ensures.setup h))
 
 pub returns-in-Err-clause-honest : goal.returns-in-Err-clause-honest
-returns-in-Err-clause-honest g c = λ h. honest_as _ _ c.in-Shut.ensures.setup (c.in-Err.ensures.honest_back (honest_as _ _ c.put-in-Err.ensures.setup h))
+returns-in-Err-clause-honest g c = λ h. honest_as _ _ c.in-Shut.ensures.setup (c.in-Err.ensures.refused.honest (honest_as _ _ c.put-in-Err.ensures.setup h))
 
 pub returns-in-Open-clause-honest : goal.returns-in-Open-clause-honest
 returns-in-Open-clause-honest g c = λ h. honest_as _ _ c.in-Open.ensures.setup (honest_as _ _ c.put-in-Open.ensures.setup h)

@@ -33,21 +33,21 @@ loop-step-preserved g c =
       run = λ honest w m.
           let at = after_steps w (take i ss) tr in
           let was = c.step-event.ensures.honest honest in
-          let stood' = inv.stands was w m in
+          let step = c.step-event.ensures.steps honest at (inv.stands was w m) in
           subst (λ (l : List Step). IsRun StandsFor IsLastEpoch w first l c.push_reserved.new.self.items (bench_sight c.step-event.new.self)) (sym more)
           (subst (λ (t : List StepEvent). IsRun StandsFor IsLastEpoch w first (take i ss ++ s ∷ []) t (bench_sight c.step-event.new.self)) (sym items)
           (run_more StandsFor IsLastEpoch w first last (bench_sight c.step-event.new.self) (take i ss) tr s e (inv.run was w m)
-          (c.step-event.ensures.answer honest at stood') (c.step-event.ensures.moves honest at stood') (c.step-event.ensures.headline honest at stood')));
+          step.answer step.moves step.headline));
       stands = λ honest w m.
           let was = c.step-event.ensures.honest honest in
           subst (λ (v : World). MatchesBench v c.step-event.new.self)
           (sym (after_more StandsFor IsLastEpoch w first last (take i ss) tr s e (inv.run was w m)) ∙ (ap (after_steps w (take i ss ++ s ∷ [])) (sym items) ∙ ap (λ (l : List Step). after_steps w l c.push_reserved.new.self.items) (sym more)))
-          (c.step-event.ensures.stands honest (after_steps w (take i ss) tr) (inv.stands was w m));
+          (c.step-event.ensures.steps honest (after_steps w (take i ss) tr) (inv.stands was w m)).stands;
       paces = λ honest w pace m held.
           let was = c.step-event.ensures.honest honest in
           let at = after_steps w (take i ss) tr in
           let before = inv.paces was w pace m held in
-          let next = c.step-event.ensures.paces honest at before.0 (inv.stands was w m) before.2 in
+          let next = (c.step-event.ensures.steps honest at (inv.stands was w m)).paces before.0 before.2 in
           let steps : take i ss ++ s ∷ [] ≡ take (i + 1) ss = sym more in
           let trace : tr ++ e ∷ [] ≡ c.push_reserved.new.self.items = sym items in (
             next.0,
@@ -75,28 +75,24 @@ loop-step-init g c =
 
 pub returns-clause-run : goal.returns-clause-run
 returns-clause-run g c = λ honest w m.
+    let trace = c.loop-step.trace.items in
+    let old = c.args.self.now in
+    let new = c.loop-step.self in
     let all : take c.loop-step.step-index c.args.steps.now ≡ c.args.steps.now = take_all c.loop-step.step-index c.args.steps.now (omega (arith, c.loop-step-test.false)) in
-    subst (λ (l : List Step). IsRun StandsFor IsLastEpoch w (bench_sight c.args.self.now) l c.loop-step.trace.items (bench_sight c.loop-step.self)) all (c.loop-step.invariant.run honest w m)
-
-pub returns-clause-stands : goal.returns-clause-stands
-returns-clause-stands g c = λ honest w m.
-    let all : take c.loop-step.step-index c.args.steps.now ≡ c.args.steps.now = take_all c.loop-step.step-index c.args.steps.now (omega (arith, c.loop-step-test.false)) in
-    subst (λ (l : List Step). MatchesBench (after_steps w l c.loop-step.trace.items) c.loop-step.self) all (c.loop-step.invariant.stands honest w m)
-
-pub returns-clause-paces : goal.returns-clause-paces
-returns-clause-paces g c = λ honest w pace m e.
-    let all : take c.loop-step.step-index c.args.steps.now ≡ c.args.steps.now = take_all c.loop-step.step-index c.args.steps.now (omega (arith, c.loop-step-test.false)) in
+    let run : IsRun StandsFor IsLastEpoch w (bench_sight old) c.args.steps.now trace (bench_sight new) = subst (λ (l : List Step). IsRun StandsFor IsLastEpoch w (bench_sight old) l trace (bench_sight new)) all (c.loop-step.invariant.run honest w m) in
+    let paces = λ pace e.
     let paced = c.loop-step.invariant.paces honest w pace m e in (
       paced.0,
-      subst (λ (l : List Step). PacesAll most_more w pace l c.loop-step.trace.items paced.0) all paced.1,
-      subst (λ (l : List Step). IsPaced paced.0 (after_steps w l c.loop-step.trace.items) c.loop-step.self) all paced.2,
-    )
-
-pub returns-clause-answered : goal.returns-clause-answered
-returns-clause-answered g c = λ honest slots pace w rounds m e l are most steps sound.
-    let trace = c.loop-step.trace.items in
-    let run = returns-clause-run g c honest w m in
-    let answers = run_answers StandsFor IsLastEpoch w (bench_sight c.args.self.now) (bench_sight c.loop-step.self) c.args.steps.now trace run in
-    let paced = returns-clause-paces g c honest w pace m e in
-    subst (λ (ss : List Step). AreReceived slots most_more w (after_steps w ss trace)) (sym steps)
-    (fair_run slots most_more w pace rounds trace paced.0 l are most (subst (λ (ss : List Step). AnswersAll w ss trace) steps answers) sound (subst (λ (ss : List Step). PacesAll most_more w pace ss trace paced.0) steps paced.1))
+      subst (λ (l : List Step). PacesAll most_more w pace l trace paced.0) all paced.1,
+      subst (λ (l : List Step). IsPaced paced.0 (after_steps w l trace) new) all paced.2,
+    ) in
+    record {
+      run = run;
+      stands = subst (λ (l : List Step). MatchesBench (after_steps w l trace) new) all (c.loop-step.invariant.stands honest w m);
+      paces = paces;
+      answered = λ slots pace rounds e l are most steps sound.
+          let answers = run_answers StandsFor IsLastEpoch w (bench_sight old) (bench_sight new) c.args.steps.now trace run in
+          let paced = paces pace e in
+          subst (λ (ss : List Step). AreReceived slots most_more w (after_steps w ss trace)) (sym steps)
+          (fair_run slots most_more w pace rounds trace paced.0 l are most (subst (λ (ss : List Step). AnswersAll w ss trace) steps answers) sound (subst (λ (ss : List Step). PacesAll most_more w pace ss trace paced.0) steps paced.1));
+    }

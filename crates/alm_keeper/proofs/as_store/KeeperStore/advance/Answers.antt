@@ -1,6 +1,6 @@
 use Rattle.alm_keeper.proofs.CallsLeft.{works, open_work, will_take_on, takes_kept}
 use Rattle.alm_keeper.proofs.StorePassing.{advanced}
-use Rattle.alm_keeper.proofs.StoreCalls.{makes_one, counts_failures, stays_exhausted}
+use Rattle.alm_keeper.proofs.StoreCalls.{makes_one, stays_exhausted}
 use Rattle.alm_keeper.proofs.StorePacing.{newest_stays, goes_on}
 use Rattle.alm_keeper.proofs.as_store.KeeperStore.advance.Goals as goal
 
@@ -11,7 +11,7 @@ pub returns-clause-advanced : goal.returns-clause-advanced
 returns-clause-advanced g c =
     let k = c.args.self.now in
     let at = works k.stage k.work c.requires in
-    advanced k c.advance.new.self at c.advance.result (λ is. (c.images.ensures.runs at is).0) c.advance.ensures.advances
+    advanced k c.advance.new.self at c.advance.result (λ is. (c.images.ensures.order.runs at is).0) c.advance.ensures.advances
 
 pub returns-clause-will_take : goal.returns-clause-will_take
 returns-clause-will_take g c = λ not actions room.
@@ -21,24 +21,18 @@ returns-clause-will_take g c = λ not actions room.
 pub returns-clause-takes : goal.returns-clause-takes
 returns-clause-takes g c = λ copies not actions room.
     let k = c.args.self.now in
-    takes_kept c.advance.result k c.advance.new.self copies (c.images.ensures.runs (works k.stage k.work c.requires) (open_work k.stage k.work copies)).1 c.advance.ensures.advances not actions room
+    takes_kept c.advance.result k c.advance.new.self copies (c.images.ensures.order.runs (works k.stage k.work c.requires) (open_work k.stage k.work copies)).1 c.advance.ensures.advances not actions room
 
 pub returns-clause-pace : goal.returns-clause-pace
 returns-clause-pace g c =
     let k = c.args.self.now in
     let i = c.images.ensures in
-    goes_on k c.advance.new.self c.advance.result (works k.stage k.work c.requires) i.lengths.0 i.frames i.pieces c.advance.ensures.advances
-
-pub returns-clause-newest : goal.returns-clause-newest
-returns-clause-newest g c = newest_stays c.args.self.now c.advance.new.self c.advance.result c.advance.ensures.advances
+    goes_on k c.advance.new.self c.advance.result (works k.stage k.work c.requires) i.order.lengths.0 i.order.frames i.order.pieces c.advance.ensures.advances
 
 pub returns-clause-one : goal.returns-clause-one
 returns-clause-one g c = makes_one g.D.Disk c.args.self.now c.advance.new.self.disk c.advance.result c.advance.ensures.call
 
-pub returns-clause-exhausted : goal.returns-clause-exhausted
-returns-clause-exhausted g c = λ least. stays_exhausted c.args.self.now c.advance.new.self c.advance.result c.advance.ensures.advances least
-
-pub returns-clause-counts : goal.returns-clause-counts
-returns-clause-counts g c =
-    let e = c.advance.ensures in
-    counts_failures c.advance.result (g.D.Disk.failures c.args.self.now.disk) (g.D.Disk.failures c.advance.new.self.disk) e.count e.sound e.failed
+pub returns-clause-standing : goal.returns-clause-standing
+returns-clause-standing g c =
+    let k = c.args.self.now in
+    ((λ least. stays_exhausted k c.advance.new.self c.advance.result c.advance.ensures.advances least), newest_stays k c.advance.new.self c.advance.result c.advance.ensures.advances)

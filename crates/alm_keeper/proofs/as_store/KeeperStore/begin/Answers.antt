@@ -1,3 +1,4 @@
+use Rattle.std.proofs.Common.{rules}
 use Rattle.alm_model.specs.Judging.{accepted_of}
 use Rattle.alm_keeper.specs.Batch.{accepted_asked}
 use Rattle.alm_keeper.specs.Stages.{phase_of}
@@ -29,7 +30,7 @@ returns-clause-refused g c = λ rest. refused_phase c.args.self.now c.begin.new.
 pub returns-clause-pace : goal.returns-clause-pace
 returns-clause-pace g c = λ rest.
     let i = c.images.ensures in
-    begun_pace c.args.self.now c.begin.new.self c.begin.result (accepted_asked c.args.self.now.stored.version c.args.batch.now.entries) i.copies.0 i.copies.1 c.begin.ensures.begins rest
+    begun_pace c.args.self.now c.begin.new.self c.begin.result (accepted_asked c.args.self.now.stored.version c.args.batch.now.entries) i.order.copies.0 i.order.copies.1 c.begin.ensures.begins rest
 
-pub returns-clause-newest : goal.returns-clause-newest
-returns-clause-newest g c = newest_begun c.args.self.now c.begin.new.self c.begin.result (accepted_asked c.args.self.now.stored.version c.args.batch.now.entries) c.begin.ensures.begins
+pub returns-clause-standing : goal.returns-clause-standing
+returns-clause-standing g c = (search rules, newest_begun c.args.self.now c.begin.new.self c.begin.result (accepted_asked c.args.self.now.stored.version c.args.batch.now.entries) c.begin.ensures.begins)

@@ -1,3 +1,4 @@
+use Rattle.std.proofs.Common.{rules}
 use Rattle.alm_keeper.proofs.StoreBegun.{copied_cause}
 use Rattle.alm_keeper.proofs.CallsLeft.{checkpoint_calls, checkpoint_room}
 use Rattle.alm_keeper.proofs.StorePassing.{opened_checkpoint, not_opened}
@@ -16,10 +17,10 @@ returns-clause-begun g c =
     let new = c.begin_checkpoint.new.self in
     let result = c.begin_checkpoint.result in
     let e = c.begin_checkpoint.ensures in
-    opened_checkpoint old new result e.answer e.begins (checkpoint_calls result old new c.images.ensures.lengths.0 e.begins) (fresh old new result e.begins)
+    opened_checkpoint old new result e.answer e.begins (checkpoint_calls result old new c.images.ensures.order.lengths.0 e.begins) (fresh old new result e.begins)
 
 pub returns-clause-refused : goal.returns-clause-refused
 returns-clause-refused g c = not_opened c.args.self.now c.begin_checkpoint.new.self c.begin_checkpoint.result c.begin_checkpoint.ensures.begins
 
-pub returns-clause-newest : goal.returns-clause-newest
-returns-clause-newest g c = newest_copied c.args.self.now c.begin_checkpoint.new.self c.begin_checkpoint.result c.begin_checkpoint.ensures.begins
+pub returns-clause-standing : goal.returns-clause-standing
+returns-clause-standing g c = (search rules, newest_copied c.args.self.now c.begin_checkpoint.new.self c.begin_checkpoint.result c.begin_checkpoint.ensures.begins)

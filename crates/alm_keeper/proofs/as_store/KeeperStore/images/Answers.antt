@@ -7,7 +7,7 @@ use Rattle.alm_keeper.proofs.as_store.KeeperStore.images.Goals as goal
 
 pub returns : goal.returns
 returns g c = record {
-  few = let k = c.args.self.now in let l = c.images.ensures.lengths in few_calls k.stage k.work (k.run - k.out) (λ at is. let r = c.images.ensures.runs at is in omega (arith, r.1, l.0, l.1));
+  few = let k = c.args.self.now in let l = c.images.ensures.order.lengths in few_calls k.stage k.work (k.run - k.out) (λ at is. let r = c.images.ensures.order.runs at is in omega (arith, r.1, l.0, l.1));
   stands = λ honest b image.
       let k = c.args.self.now in
       ∥∥₁_map (c.images.ensures.either honest b image) (λ s. ⊎_elim (λ x. inl (k.stored.epoch, x)) (λ y. inr ((next k).epoch, y)) s);

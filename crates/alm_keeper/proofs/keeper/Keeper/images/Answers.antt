@@ -10,23 +10,15 @@ returns-clause-says g c = one_of g.D.Disk.honest g.D.Disk.state c.self.inside.di
 pub returns-clause-rests : goal.returns-clause-rests
 returns-clause-rests g c = rest_of g.D.Disk.honest g.D.Disk.state c.self.inside.disk c.self.inside.book c.args.self.now c.self.view_is c.self.invariant.0 c.self.invariant.2
 
-pub returns-clause-lengths : goal.returns-clause-lengths
-returns-clause-lengths g c = lengths_of g.D.Disk.honest g.D.Disk.state c.self.inside.disk c.self.inside.book c.args.self.now c.self.view_is c.self.invariant.0 c.self.invariant.2
-
-pub returns-clause-runs : goal.returns-clause-runs
-returns-clause-runs g c = runs_of g.D.Disk.honest g.D.Disk.state c.self.inside.disk c.self.inside.book c.args.self.now c.self.view_is c.self.invariant.0 c.self.invariant.2
-
-pub returns-clause-frames : goal.returns-clause-frames
-returns-clause-frames g c = frames_of g.D.Disk.honest g.D.Disk.state c.self.inside.disk c.self.inside.book c.args.self.now c.self.view_is c.self.invariant.0 c.self.invariant.2
-
-pub returns-clause-pieces : goal.returns-clause-pieces
-returns-clause-pieces g c = pieces_of g.D.Disk.honest g.D.Disk.state c.self.inside.disk c.self.inside.book c.args.self.now c.self.view_is c.self.invariant.0 c.self.invariant.2
-
-pub returns-clause-copies : goal.returns-clause-copies
-returns-clause-copies g c = copies_of g.D.Disk.honest g.D.Disk.state c.self.inside.disk c.self.inside.book c.args.self.now c.self.view_is c.self.invariant.0 c.self.invariant.2
-
 pub returns-clause-lies : goal.returns-clause-lies
 returns-clause-lies g c = lies_of g.D.Disk.honest g.D.Disk.state c.self.inside.disk c.self.inside.book c.args.self.now c.self.view_is c.self.invariant.0 c.self.invariant.2
 
-pub returns-clause-alone : goal.returns-clause-alone
-returns-clause-alone g c = alone_of g.D.Disk.honest g.D.Disk.state c.self.inside.disk c.self.inside.book c.args.self.now c.self.view_is c.self.invariant.0 c.self.invariant.2
+pub returns-clause-order : goal.returns-clause-order
+returns-clause-order g c = record {
+  lengths = lengths_of g.D.Disk.honest g.D.Disk.state c.self.inside.disk c.self.inside.book c.args.self.now c.self.view_is c.self.invariant.0 c.self.invariant.2;
+  runs = runs_of g.D.Disk.honest g.D.Disk.state c.self.inside.disk c.self.inside.book c.args.self.now c.self.view_is c.self.invariant.0 c.self.invariant.2;
+  frames = frames_of g.D.Disk.honest g.D.Disk.state c.self.inside.disk c.self.inside.book c.args.self.now c.self.view_is c.self.invariant.0 c.self.invariant.2;
+  alone = alone_of g.D.Disk.honest g.D.Disk.state c.self.inside.disk c.self.inside.book c.args.self.now c.self.view_is c.self.invariant.0 c.self.invariant.2;
+  pieces = pieces_of g.D.Disk.honest g.D.Disk.state c.self.inside.disk c.self.inside.book c.args.self.now c.self.view_is c.self.invariant.0 c.self.invariant.2;
+  copies = copies_of g.D.Disk.honest g.D.Disk.state c.self.inside.disk c.self.inside.book c.args.self.now c.self.view_is c.self.invariant.0 c.self.invariant.2;
+}
