@@ -1,14 +1,15 @@
 -- What a step of a flusher makes of its store: of the device, of the batch under way, in which order, at which pace,
 -- and why it fails.
-use Rattle.std.specs.Prelude.{◌≡◌, ◌≢◌, ◌↔◌, ◌⊎◌, ◌*◌, ◌<◌, ◌≤◌, ℕ, Bool, List, [], length, MatchBool, None, false, true}
+use Rattle.std.specs.Prelude.{◌≡◌, ◌≢◌, ◌↔◌, ◌⊎◌, ◌+◌, ◌*◌, ◌<◌, ◌≤◌, ℕ, Bool, List, [], length, IsTrue, MatchBool, None, false, true}
+use Rattle.alm_types.specs.Sizes.{most_entries}
 use Rattle.alm_types.specs.declared.action.Action.{Action}
 use Rattle.alm_disk.specs.Failures.{HasFailed}
 use Rattle.alm_disk.specs.declared.disk.Disk
 use Rattle.alm_model.specs.Rules.{admits_all}
 use Rattle.alm_model.specs.Step.{run}
-use Rattle.alm_store.specs.Advancing.{CheckpointIsNotOpened, CheckpointIsOpened, IsCalls, IsCheckpointing}
+use Rattle.alm_store.specs.Advancing.{CheckpointIsNotOpened, CheckpointIsOpened, CommitIsNotBegun, IsCalls, IsCheckpointing}
 use Rattle.alm_store.specs.Calls.{CallDone, CallFailed, IsCall}
-use Rattle.alm_store.specs.Pace.{least_segment, most}
+use Rattle.alm_store.specs.Pace.{least_segment, most, most_calls}
 use Rattle.alm_store.specs.Pacing.{KeepsPace, SamePace}
 use Rattle.alm_store.specs.State.{StoreState}
 use Rattle.alm_store.specs.declared.phase.Phase.TheVariants.{Idle, Committing, Paused, Stopped}
@@ -40,6 +41,12 @@ pub record KeepsPhase (result : Advance) (old new : StoreState) : Type 0 where
   pub copies : IsCheckpointing old.phase → new.phase ≢ Committing
   pub commits : result ≡ Committed → old.phase ≡ Committing
 
+-- the bytes of pieces are counted: by a piece at a time, only outside a commit, and down to a piece none is taken back
+pub record CountsPieces (result : Advance) (old new : StoreState) : Type 0 where
+  pub one : new.written ≤ old.written + most
+  pub none : old.phase ≢ Paused → new.written ≤ old.written
+  pub on : result ≡ More → old.written ≤ most → old.written ≤ new.written
+
 -- what was begun if no work was under way: a commit, which leaves use and open checkpoint, or a checkpoint
 pub record StartsInPace (takes : Type 0) (old new : StoreState) : Type 0 where
   pub pace : takes → SamePace old new
@@ -61,6 +68,19 @@ module _ {S D : Type 0} (g : Ghosts S D) where
     pub state : g.state new ≡ record (g.state old) { written = (g.state new).written }
     pub newest : g.newest old → g.newest new
     pub takes : (actions : List Action) → (g.takes old actions ↔ g.takes new actions) × (g.will_take old actions ↔ g.will_take new actions)
+
+  -- work is begun for a batch with these actions, or it was refused. No device call is made. Only a batch that isn't the next one is
+  -- refused, except in the last epoch
+  pub record BeginsWork (result : Bool) (actions : List Action) (is_next : Type 0) (old new : S) : Type 0 where
+    pub kept : IsUntouched old new
+    pub refused : result ≡ false → CommitIsNotBegun (g.state old) (g.state new)
+    pub commit : IsTrue result → CommitsOnly actions (g.state new)
+    pub cause : ¬ (g.exhausted old) → is_next → IsTrue result
+
+  -- how many calls are left of what was begun, and that a checkpoint makes the room for these actions
+  pub record HasFewCalls (actions : List Action) (s : S) : Type 0 where
+    pub commit : (g.state s).phase ≡ Committing → (g.state s).left ≤ 4
+    pub checkpoint : IsCheckpointing (g.state s).phase → ((g.state s).left ≤ most_calls) × (length actions ≤ most_entries → g.will_take s actions)
 
   -- what is begun for a batch before the next call
   pub record BeginsInOrder (actions : List Action) (old new : S) : Type 0 where
@@ -146,3 +166,13 @@ module _ {S D : Type 0} (g : Ghosts S D) where
     pub record HasCauses (result : Advance) (actions : List Action) (is_next : Type 0) (old new : S) : Type 0 where
       pub sure : result ≡ Failed → IsSure (g.state old).phase (g.takes old actions) → is_next → HasFailed (d.failures (g.disk old)) (d.failures (g.disk new))
       pub cause : result ≡ Failed → (g.state old).phase ≢ Stopped → ¬ (g.exhausted old) → is_next → HasFailed (d.failures (g.disk old)) (d.failures (g.disk new))
+
+    -- one step of the commit of these actions: at most one device call. The commit stays that of these actions alone, and is done
+    -- in one step less if there is more to do
+    pub record StepsCommit (result : Advance) (actions : List Action) (is_next : Type 0) (old new : S) : Type 0 where
+      pub device : CallsDevice result actions old new
+      pub stores : StoresBatch result actions (g.state old) (g.state new)
+      pub commit : CommitsOnly actions (g.state new)
+      pub order : IsInOrder result actions old new
+      pub ends : (m : ℕ) → result ≡ More → EndsWithin (m + 1) actions old → EndsWithin m actions new
+      pub causes : HasCauses result actions is_next old new

@@ -3,13 +3,13 @@
 ghost use Rattle.std.specs.Prelude.{◌≡◌, ◌≢◌, ℕ, ◌⊎◌, ◌↔◌, ◌+◌, ◌*◌, ◌<◌, ◌≤◌, [], length, IsTrue, false};
 ghost use Rattle.alm_disk.specs.Failures.{HasFailed};
 ghost use Rattle.alm_model.specs.Judging.{accepted_of};
-ghost use Rattle.alm_store.specs.Pace.{most, most_calls};
+ghost use Rattle.alm_store.specs.Pace.{most};
 ghost use Rattle.alm_types.specs.Sizes.{most_entries};
-ghost use Rattle.alm_store.specs.Advancing.{CommitIsNotBegun, IsCheckpointing};
+ghost use Rattle.alm_store.specs.Advancing.{IsCheckpointing};
 ghost use Rattle.alm_store.specs.Pacing.{KeepsPace, SamePace};
 ghost use Rattle.alm_flush.specs.Advances.{Behind, GoesOn, IsNextOne, IsSure};
 ghost use Rattle.alm_flush.specs.Pacing.{NearPace};
-ghost use Rattle.alm_flush.specs.Steps.{BeginsInOrder, BeginsInPace, CallsDevice, CommitsOnly, EndsWithin, HasCauses, IsEither, IsInOrder, IsUntouched, KeepsPhase, NearsPace, OpensBehind, OpensBetween, StartsInPace, StaysInPace, StoresBatch};
+ghost use Rattle.alm_flush.specs.Steps.{BeginsInOrder, BeginsInPace, BeginsWork, CallsDevice, CommitsOnly, CountsPieces, EndsWithin, HasFewCalls, IsEither, IsUntouched, KeepsPhase, NearsPace, OpensBehind, OpensBetween, StartsInPace, StaysInPace, StepsCommit, StoresBatch};
 
 use crate::advance::Advance;
 use alm_store::{Phase, Progress, Store};
@@ -28,24 +28,16 @@ pub fn few(batch: &Batch)
 fn start<K: Store>(store: &mut K, batch: &Batch) -> bool
     requires idle { (K.state store.old).phase ≡ Phase.Idle }
     requires some { 0 < length (accepted_of batch.now.entries) }
-    ensures kept { IsUntouched K.Store store.old store.new }
-    ensures refused { result ≡ false → CommitIsNotBegun (K.state store.old) (K.state store.new) }
+    ensures work { BeginsWork K.Store result (accepted_of batch.now.entries)
+        (IsNextOne batch.now (K.state store.old)) store.old store.new }
     ensures begun { IsTrue result →
         ((K.state store.new).phase ≡ Phase.Committing) ⊎ IsCheckpointing (K.state store.new).phase }
     ensures taken { IsTrue result → K.takes store.old (accepted_of batch.now.entries) →
         (K.state store.new).phase ≡ Phase.Committing }
-    ensures commit { IsTrue result →
-        CommitsOnly (accepted_of batch.now.entries) (K.state store.new) }
-    ensures calls { IsTrue result → (K.state store.new).phase ≡ Phase.Committing →
-        (K.state store.new).left ≤ 4 }
-    ensures copy { IsTrue result → IsCheckpointing (K.state store.new).phase →
-        ((K.state store.new).left ≤ most_calls) ×
-        (length (accepted_of batch.now.entries) ≤ most_entries →
-        K.will_take store.new (accepted_of batch.now.entries)) }
+    ensures few { IsTrue result →
+        HasFewCalls K.Store (accepted_of batch.now.entries) store.new }
     ensures sure { K.takes store.old (accepted_of batch.now.entries) →
         IsNextOne batch.now (K.state store.old) → IsTrue result }
-    ensures cause { ¬ (K.exhausted store.old) → IsNextOne batch.now (K.state store.old) →
-        IsTrue result }
     ensures pace { IsTrue result →
         StartsInPace (K.takes store.old (accepted_of batch.now.entries)) (K.state store.old)
         (K.state store.new) }
@@ -62,16 +54,12 @@ fn start<K: Store>(store: &mut K, batch: &Batch) -> bool
 fn interrupt<K: Store>(store: &mut K, batch: &Batch) -> bool
     requires paused { (K.state store.old).phase ≡ Phase.Paused }
     requires some { 0 < length (accepted_of batch.now.entries) }
-    ensures kept { IsUntouched K.Store store.old store.new }
-    ensures refused { result ≡ false → CommitIsNotBegun (K.state store.old) (K.state store.new) }
+    ensures work { BeginsWork K.Store result (accepted_of batch.now.entries)
+        (IsNextOne batch.now (K.state store.old)) store.old store.new }
     ensures begun { IsTrue result →
         ((K.state store.new).phase ≡ Phase.Committing) ⊎ (store.new ≡ store.old) }
-    ensures between { (K.state store.new).phase ≡ Phase.Committing →
-        0 < (K.state store.old).written }
-    ensures waits { IsTrue result → K.takes store.old (accepted_of batch.now.entries) →
-        (K.state store.new).phase ≢ Phase.Committing → (K.state store.old).written ≡ 0 }
-    ensures commit { IsTrue result →
-        CommitsOnly (accepted_of batch.now.entries) (K.state store.new) }
+    ensures order { IsTrue result →
+        BeginsInOrder K.Store (accepted_of batch.now.entries) store.old store.new }
     ensures calls { IsTrue result → (K.state store.new).phase ≡ Phase.Committing →
         (K.state store.new).left ≤ 4 }
     ensures sure { IsNextOne batch.now (K.state store.old) → IsTrue result }
@@ -88,15 +76,13 @@ fn prepare<K: Store>(store: &mut K, batch: &Batch) -> bool
     requires going { (K.state store.old).phase ≢ Phase.Stopped }
     requires some { 0 < length (accepted_of batch.now.entries) }
     requires commit { CommitsOnly (accepted_of batch.now.entries) (K.state store.old) }
-    ensures kept { IsUntouched K.Store store.old store.new }
-    ensures refused { result ≡ false → CommitIsNotBegun (K.state store.old) (K.state store.new) }
+    ensures work { BeginsWork K.Store result (accepted_of batch.now.entries)
+        (IsNextOne batch.now (K.state store.old)) store.old store.new }
     ensures begun { IsTrue result →
         ((K.state store.new).phase ≡ Phase.Committing) ⊎ IsCheckpointing (K.state store.new).phase }
-    ensures commit { IsTrue result →
-        CommitsOnly (accepted_of batch.now.entries) (K.state store.new) }
     ensures order { IsTrue result →
-        BeginsInOrder K.Store (accepted_of batch.now.entries) store.old store.new }
-    ensures pace { IsTrue result → BeginsInPace K.Store store.old store.new }
+        BeginsInOrder K.Store (accepted_of batch.now.entries) store.old store.new ×
+        BeginsInPace K.Store store.old store.new }
     ensures ends { (m : ℕ) → IsTrue result →
         EndsWithin K.Store (m + 1) (accepted_of batch.now.entries) store.old →
         Behind m (K.state store.new).phase (K.state store.new).left
@@ -105,8 +91,6 @@ fn prepare<K: Store>(store: &mut K, batch: &Batch) -> bool
     ensures sure { IsSure (K.state store.old).phase
         (K.takes store.old (accepted_of batch.now.entries)) →
         IsNextOne batch.now (K.state store.old) → IsTrue result }
-    ensures cause { ¬ (K.exhausted store.old) → IsNextOne batch.now (K.state store.old) →
-        IsTrue result }
 {
     few(batch);
     match store.phase() {
@@ -131,11 +115,7 @@ fn call<K: Store>(store: &mut K, batch: &Batch) -> Advance
     ensures takes { IsCheckpointing (K.state store.old).phase → result ≢ Advance.Failed →
         K.takes store.old (accepted_of batch.now.entries) →
         K.takes store.new (accepted_of batch.now.entries) }
-    ensures written { ((K.state store.new).written ≤ (K.state store.old).written + most) ×
-        ((K.state store.old).phase ≢ Phase.Paused →
-        (K.state store.new).written ≤ (K.state store.old).written) ×
-        (result ≡ Advance.More → (K.state store.old).written ≤ most →
-        (K.state store.old).written ≤ (K.state store.new).written) }
+    ensures written { CountsPieces result (K.state store.old) (K.state store.new) }
     ensures ends { (m : ℕ) → result ≡ Advance.More →
         Behind m (K.state store.old).phase (K.state store.old).left
         (K.will_take store.old (accepted_of batch.now.entries))
@@ -198,16 +178,7 @@ fn commit<K: Store>(store: &mut K, batch: &Batch) -> Advance
     requires some { 0 < length (accepted_of batch.now.entries) }
     requires commit { CommitsOnly (accepted_of batch.now.entries) (K.state store.old) }
     requires either { IsEither (accepted_of batch.now.entries) (K.state store.old) }
-    ensures device { CallsDevice K.Store K.Device.Disk result (accepted_of batch.now.entries)
-        store.old store.new }
-    ensures stores { StoresBatch result (accepted_of batch.now.entries) (K.state store.old)
-        (K.state store.new) }
-    ensures commit { CommitsOnly (accepted_of batch.now.entries) (K.state store.new) }
-    ensures order { IsInOrder K.Store result (accepted_of batch.now.entries) store.old store.new }
-    ensures ends { (m : ℕ) → result ≡ Advance.More →
-        EndsWithin K.Store (m + 1) (accepted_of batch.now.entries) store.old →
-        EndsWithin K.Store m (accepted_of batch.now.entries) store.new }
-    ensures causes { HasCauses K.Store K.Device.Disk result (accepted_of batch.now.entries)
+    ensures step { StepsCommit K.Store K.Device.Disk result (accepted_of batch.now.entries)
         (IsNextOne batch.now (K.state store.old)) store.old store.new }
     ensures pace { NearsPace K.Store result store.old store.new }
 {
@@ -246,19 +217,10 @@ pub fn advance_by<K: Store>(store: &mut K, batch: &Batch) -> Advance
         (K.state store.old).phase ≢ Phase.Committing }
     requires commit { CommitsOnly (accepted_of batch.now.entries) (K.state store.old) }
     requires either { IsEither (accepted_of batch.now.entries) (K.state store.old) }
-    ensures device { CallsDevice K.Store K.Device.Disk result (accepted_of batch.now.entries)
-        store.old store.new }
-    ensures stores { StoresBatch result (accepted_of batch.now.entries) (K.state store.old)
-        (K.state store.new) }
-    ensures commit { CommitsOnly (accepted_of batch.now.entries) (K.state store.new) }
-    ensures order { IsInOrder K.Store result (accepted_of batch.now.entries) store.old store.new }
+    ensures step { StepsCommit K.Store K.Device.Disk result (accepted_of batch.now.entries)
+        (IsNextOne batch.now (K.state store.old)) store.old store.new }
     ensures behind { OpensBehind K.Store result store.old store.new }
     ensures pace { StaysInPace K.Store result store.old store.new }
-    ensures ends { (m : ℕ) → result ≡ Advance.More →
-        EndsWithin K.Store (m + 1) (accepted_of batch.now.entries) store.old →
-        EndsWithin K.Store m (accepted_of batch.now.entries) store.new }
-    ensures causes { HasCauses K.Store K.Device.Disk result (accepted_of batch.now.entries)
-        (IsNextOne batch.now (K.state store.old)) store.old store.new }
     ensures idle { (accepted_of batch.now.entries ≡ [] →
         (K.state store.new).phase ≢ Phase.Committing) ×
         (result ≡ Advance.Committed → ∥ (K.state store.new).next ≡ (K.state store.new).stored ∥₁) }
@@ -282,12 +244,12 @@ pub fn go_on<K: Store>(store: &mut K) -> Advance
     requires other { (K.state store.old).phase ≢ Phase.Committing }
     ensures device { CallsDevice K.Store K.Device.Disk result [] store.old store.new }
     ensures answer { GoesOn result (K.state store.old).phase (K.state store.new).phase }
-    ensures stored { (K.state store.new).stored ≡ (K.state store.old).stored }
+    ensures stored { ((K.state store.new).stored ≡ (K.state store.old).stored) ×
+        ((K.state store.old).phase ≢ Phase.Stopped →
+        (K.state store.new).next ≡ (K.state store.new).stored) }
     ensures other { (K.state store.new).phase ≢ Phase.Committing }
-    ensures next { (K.state store.old).phase ≢ Phase.Stopped →
-        (K.state store.new).next ≡ (K.state store.new).stored }
-    ensures stopped { (K.state store.old).phase ≡ Phase.Stopped → store.new ≡ store.old }
-    ensures nothing { result ≡ Advance.Nothing → store.new ≡ store.old }
+    ensures same { ((K.state store.old).phase ≡ Phase.Stopped → store.new ≡ store.old) ×
+        (result ≡ Advance.Nothing → store.new ≡ store.old) }
     ensures cause { result ≡ Advance.Failed → (K.state store.old).phase ≢ Phase.Stopped →
         HasFailed (K.Device.failures (K.disk store.old)) (K.Device.failures (K.disk store.new)) }
     ensures pace { StaysInPace K.Store result store.old store.new }

@@ -120,9 +120,8 @@ impl<K: Store, T: Told + Drop, B: Board<Told = T>> Flusher<K, T, B> {
         requires fetched { fetched_of fetch ≡ [] }
         requires idle { (K.state store).phase ≡ Phase.Idle }
         requires stored { (K.state store).stored ≡ B.base board }
-        requires published { B.published board ≡ [] }
-        requires logged { B.logged board ≡ [] }
-        requires pending { B.pending board ≡ [] }
+        requires new_board { (B.published board ≡ []) × (B.logged board ≡ []) ×
+            (B.pending board ≡ []) }
         ensures parts { (result.store ≡ store) × (result.board ≡ board) ×
             (result.outboxes ≡ outboxes) × (result.fetch ≡ fetch) }
         ensures held { (result.held ≡ Held.Nothing) × (result.before.value ≡ fetch) }
@@ -168,8 +167,7 @@ impl<K: Store, T: Told + Drop, B: Board<Told = T>> Flusher<K, T, B> {
         // The store counts what a checkpoint writes from here on; else it is as before.
         ensures marked { result ≡ Fetch.Got → (K.state self.new.store).written ≡ 0 }
         ensures store { IsAsBefore K.Store self.old.store self.new.store }
-        // A store that keeps its pace still does so, and takes the batch if the half that stands is of the newest
-        // version.
+        // A store that keeps its pace still does so, and takes the batch if its half is of the newest version.
         ensures pace { KeepsPace (K.state self.old.store) →
             KeepsPace (K.state self.new.store) }
         ensures taken { result ≡ Fetch.Got → K.newest self.new.store →
@@ -220,7 +218,7 @@ impl<K: Store, T: Told + Drop, B: Board<Told = T>> Flusher<K, T, B> {
         ensures ends { (m : ℕ) → result ≡ Advance.More → 0 < length (to_commit self.old.held) →
             EndsWithin K.Store (m + 1) (to_commit self.old.held) self.old.store →
             EndsWithin K.Store m (to_commit self.new.held) self.new.store }
-        // The first failure has a cause, and if no checkpoint can begin any more only the device fails.
+        // A failure has a cause; if no checkpoint can begin, only the device.
         ensures causes { HasCauses K.Store K.Device.Disk result (to_commit self.old.held)
             (IsNext self.old.held (K.state self.old.store).stored) self.old.store self.new.store }
         ensures broken { result ≡ Advance.Failed → (K.state self.old.store).phase ≢ Phase.Stopped →

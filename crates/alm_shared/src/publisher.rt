@@ -1,5 +1,5 @@
 //! The publisher of a value to readers in other threads.
-ghost use Rattle.std.specs.Prelude.{◌≡◌, ◌^◌, ◌<◌, [], drop, fold, IfOk, IsOk, MatchResult};
+ghost use Rattle.std.specs.Prelude.{◌≡◌, ◌^◌, ◌<◌, [], drop, fold, IfOk, IsOk, OnErr, OnOk};
 
 use crate::next_shown::NextShown;
 use crate::reader_sight::ReaderSight;
@@ -34,11 +34,12 @@ fn show_next<T: Absorb<O, State = [LoggedAction; 0]> + Drop, O: Drop, R: Wait>(
     Result<(), AllocError>,
 )
     ensures succeeds { T.never_fails → IsOk result.1 }
-    ensures values { MatchResult result.1
-        (λ _. (T.state result.0.desk.shown.value ≡
+    ensures ok { OnOk result.1
+        ((T.state result.0.desk.shown.value ≡
         fold T.applied (T.state writer.desk.shown.value) (drop writer.behind writer.log.items)) ×
-        (drop result.0.behind result.0.log.items ≡ []))
-        (λ _. (result.0.desk.shown.value ≡ writer.desk.shown.value) ×
+        (drop result.0.behind result.0.log.items ≡ [])) }
+    ensures err { OnErr result.1
+        ((result.0.desk.shown.value ≡ writer.desk.shown.value) ×
         (drop result.0.behind result.0.log.items ≡ drop writer.behind writer.log.items)) }
 {
     writer.publish_as::<ShowsNext, R>(rt)

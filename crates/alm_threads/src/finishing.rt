@@ -152,8 +152,8 @@ pub fn finish<
     ensures kept { KeepsFlusher flusher.old flusher.new }
     ensures honest { K.Device.honest (K.disk flusher.old.flusher.store) ↔
         K.Device.honest (K.disk flusher.new.flusher.store) }
-    ensures stopped { IfSome result (λ why. StopsFor why flusher.new.failed flusher.new.refused) }
-    ensures failed { flusher.new.failed ≡ true → result ≡ Some StopCause.Store }
+    ensures stopped { IfSome result (λ why. StopsFor why flusher.new.failed flusher.new.refused) ×
+        (flusher.new.failed ≡ true → result ≡ Some StopCause.Store) }
     ensures done { result ≡ None → (flusher.new.failed ≡ false) ×
         IsAllAnswered consoles.new sequencer.new.inboxes.items flusher.new.flusher.outboxes.items }
 {

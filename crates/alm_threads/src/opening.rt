@@ -85,9 +85,9 @@ pub fn parts_of<'h, J: RunId, K: Store, H: Hold, R: Wait>(
     requires limit { (K.state store).stored.panel.count ≤ most_actions }
     requires some { (0 < length slots.items) × (length slots.items < 2 ^ 32) }
     requires apart { AreApart (λ s. s) slots.items }
-    ensures store { IfOk result (λ parts. parts.middle.flusher.store ≡ store) }
-    ensures slots { IfOk result (λ parts. parts.slots ≡ slots) }
-    ensures new_consoles { IfOk result (λ parts. AreNewConsoles parts.consoles.items) }
+    ensures parts { IfOk result
+        (λ parts. (parts.middle.flusher.store ≡ store) × (parts.slots ≡ slots) ×
+        AreNewConsoles parts.consoles.items) }
     ensures refused { IfErr result (λ back. back ≡ store) }
 {
     let NewRun { history, moments } = new;

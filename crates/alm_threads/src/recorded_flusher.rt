@@ -111,9 +111,8 @@ impl<K: Store, T: Told + Drop, B: Board<Told = T>, J: RunId> RecordedFlusher<K, 
         requires fetched { fetched_of fetch ≡ [] }
         requires idle { (K.state store).phase ≡ Phase.Idle }
         requires stored { (K.state store).stored ≡ B.base board }
-        requires published { B.published board ≡ [] }
-        requires logged { B.logged board ≡ [] }
-        requires pending { B.pending board ≡ [] }
+        requires new_board { (B.published board ≡ []) × (B.logged board ≡ []) ×
+            (B.pending board ≡ []) }
         requires named { IsNamedAfter J.RunId K.Store K.Device.Disk store }
         requires recorder { recorder ≡ [] }
         ensures parts { (result.flusher.store ≡ store) × (result.flusher.board ≡ board) ×

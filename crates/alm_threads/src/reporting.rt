@@ -58,15 +58,13 @@ pub fn report_of<K: Store, T: Told + Drop, J: RunId>(
     ends: Ends<K, T, J>,
     room: Vec<Option<SlotReport>>,
 ) -> RunReport<K, T, J>
-    requires apart { AreApart (λ c. c.slot) ends.consoles.items }
-    requires tied { AreTied ends.consoles.items ends.rings.inboxes.items
-        ends.flusher.outboxes.items }
+    requires tied { AreApart (λ c. c.slot) ends.consoles.items ×
+        AreTied ends.consoles.items ends.rings.inboxes.items ends.flusher.outboxes.items }
     requires batches { AreBatchEnds ends.rings.ends ends.flusher.fetch }
     requires end { EndForCause K.Store K.Device.Disk ends }
     requires room { (room.items ≡ []) × (vec_len ends.consoles ≤ vec_capacity room) }
-    ensures keeper { result.keeper ≡ ends.flusher.store }
-    ensures moments { result.moments ≡ ends.moments }
-    ensures consoles { result.consoles.value ≡ ends.consoles }
+    ensures parts { (result.keeper ≡ ends.flusher.store) × (result.moments ≡ ends.moments) ×
+        (result.consoles.value ≡ ends.consoles) }
     ensures closed { AreClosed ends.consoles.items ends.rings.inboxes.items
         ends.flusher.outboxes.items result.slots.items }
     ensures fetched { IsPrefix (fetched_of ends.flusher.fetch) (sealed_of ends.rings.ends) }

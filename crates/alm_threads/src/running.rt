@@ -75,10 +75,8 @@ where
     requires base { (K.state middle.flusher.store).stored ≡ B.Board.base board }
     requires fresh { (B.Board.published board ≡ []) × (B.Board.pending board ≡ []) ×
         (B.Board.logged board ≡ []) }
-    requires consoles { (room.consoles.items ≡ []) ×
-        (vec_len slot_parts ≤ vec_capacity room.consoles) }
-    requires sources { (room.sources.items ≡ []) ×
-        (vec_len slot_parts ≤ vec_capacity room.sources) }
+    requires room { (room.consoles.items ≡ []) × (vec_len slot_parts ≤ vec_capacity room.consoles) ×
+        (room.sources.items ≡ []) × (vec_len slot_parts ≤ vec_capacity room.sources) }
     ensures back { IfOk result
         (λ e. AreBack K.Store K.Device.Disk (map (λ p. p.console) slot_parts.items) middle.rings
         middle.flusher e.ends) }
@@ -151,10 +149,8 @@ fn in_scope<
     requires base { (K.state middle.flusher.store).stored ≡ B.Board.base board }
     requires fresh { (B.Board.published board ≡ []) × (B.Board.pending board ≡ []) ×
         (B.Board.logged board ≡ []) }
-    requires consoles { (room.consoles.items ≡ []) ×
-        (vec_len slot_parts ≤ vec_capacity room.consoles) }
-    requires sources { (room.sources.items ≡ []) ×
-        (vec_len slot_parts ≤ vec_capacity room.sources) }
+    requires room { (room.consoles.items ≡ []) × (vec_len slot_parts ≤ vec_capacity room.consoles) ×
+        (room.sources.items ≡ []) × (vec_len slot_parts ≤ vec_capacity room.sources) }
     ensures back { IfOk result
         (λ e. AreBack K.Store K.Device.Disk (map (λ p. p.console) slot_parts.items) middle.rings
         middle.flusher e.ends) }

@@ -37,8 +37,8 @@ returns-clause-end g c =
     with_items_is c.args.consoles new (omega (arith, all_same_length c.deref_mut.result.now new c.finish-cause.ensures.ends.0, ap length c.deref_mut.ensures.value, c.args.consoles.ok)) in
     let flusher = c.finish-cause.new.flusher in
     record {
-      refused = λ n why. (subst (λ o. IfSome o (λ w. StopsFor w flusher.failed flusher.refused)) why c.finish-cause.ensures.stopped).1;
-      stopped = λ phase. c.finish-cause.ensures.failed (sym same.4 ∙ b.stopped (ap (λ k. (g.K.Store.state k).phase) (sym parts.0) ∙ phase));
+      refused = λ n why. (subst (λ o. IfSome o (λ w. StopsFor w flusher.failed flusher.refused)) why c.finish-cause.ensures.stopped.0).1;
+      stopped = λ phase. c.finish-cause.ensures.stopped.1 (sym same.4 ∙ b.stopped (ap (λ k. (g.K.Store.state k).phase) (sym parts.0) ∙ phase));
       answered = λ none. subst (λ cs. IsAllAnswered cs c.rings_of-rings.result.inboxes.items c.close_flusher-flusher.result.0.outboxes.items) (sym consoles)
           (rw (c.rings_of-rings.ensures.inboxes, parts.1, same.2) (c.finish-cause.ensures.done none).1);
     }
@@ -51,7 +51,7 @@ returns-clause-failed g c = λ why spent.
     let same = c.batches_beside.ensures.same in
     let parts = c.close_flusher-flusher.ensures.parts in
     let new = c.finish-cause.new.flusher in
-    let failed : b.failed ≡ true = same.4 ∙ subst (λ o. IfSome o (λ w. StopsFor w new.failed new.refused)) why c.finish-cause.ensures.stopped in
+    let failed : b.failed ≡ true = same.4 ∙ subst (λ o. IfSome o (λ w. StopsFor w new.failed new.refused)) why c.finish-cause.ensures.stopped.0 in
     let base = c.finish-cause.ensures.live ∙ (c.requires.live ∙ (sym c.finish-cause.ensures.kept.2 ∙ ap g.B.Board.base (sym same.1))) in
     let order =
     in_order_prefix (g.B.Board.base b.flusher.board) (fetched_of b.flusher.fetch) (sealed_of c.batches_beside.new.seal) (coming_in b.flusher.fetch, c.batches_beside.ensures.fetched)

@@ -36,12 +36,12 @@ in_scope-requires-clause-tied g c = λ _ _.
       replies = p.replies;
     })
 
-pub report_of-requires-clause-apart : goal.report_of-requires-clause-apart
-report_of-requires-clause-apart g c =
+pub report_of-requires-clause-tied : goal.report_of-requires-clause-tied
+report_of-requires-clause-tied g c =
     let p = c.args.parts in
     let back = c.in_ok-ends.field-0.ends.consoles.items in
     let all = subst (λ cs. AllSame cs back) c.slot_parts_of-slot_parts.ensures.consoles c.in_ok-ends.ensures.back.same in
-    apart_by (λ (x : Console _ _). x.slot) back p.slots.items (same_slots p.consoles.items back all ∙ p.order) p.apart
+    (apart_by (λ (x : Console _ _). x.slot) back p.slots.items (same_slots p.consoles.items back all ∙ p.order) p.apart, c.in_ok-ends.ensures.back.tied)
 
 pub report_of-requires-clause-room : goal.report_of-requires-clause-room
 report_of-requires-clause-room g c =
@@ -70,15 +70,15 @@ returns-clause-run g c =
         legal = f.judged.judged.legal;
         kept = f.flushed.flushed.kept;
         prefix = prefix_on f.flushed.flushed.kept (entries_in fetched) entries f.flushed.flushed.fetched (prefix_on (entries_in fetched) (entries_in sealed) entries (entries_prefix fetched sealed c.report_of.ensures.fetched) f.judged.judged.sealed);
-        stored_is = ap (λ k. (g.K.Store.state k).stored) c.report_of.ensures.keeper ∙ f.flushed.flushed.stored_is;
+        stored_is = ap (λ k. (g.K.Store.state k).stored) c.report_of.ensures.parts.0 ∙ f.flushed.flushed.stored_is;
         waiting = f.flushed.flushed.waiting;
         ahead = prefix_on (f.flushed.flushed.kept ++ f.flushed.flushed.waiting) (entries_in fetched) entries f.flushed.flushed.ahead (prefix_on (entries_in fetched) (entries_in sealed) entries (entries_prefix fetched sealed c.report_of.ensures.fetched) f.judged.judged.sealed);
         device = subst (λ (k : _). LeavesOneOf (g.K.Device.Disk.honest (g.K.Store.disk p.middle.flusher.store)) (g.K.Device.Disk.honest (g.K.Store.disk k)) g.K.Store.recovers (g.K.Device.Disk.state (g.K.Store.disk k)) (g.K.Store.state k).stored (run (g.K.Store.state k).stored (accepted_of f.flushed.flushed.waiting)))
-            (sym c.report_of.ensures.keeper) f.flushed.flushed.device;
+            (sym c.report_of.ensures.parts.0) f.flushed.flushed.device;
         told = f.flushed.flushed.told;
         within = f.flushed.flushed.within;
         course = endures_on g.K.Store.recovers (g.K.Store.state p.middle.flusher.store).stored (g.K.Device.Disk.honest (g.K.Store.disk p.middle.flusher.store)) (g.K.Device.Disk.state (g.K.Store.disk p.middle.flusher.store)) (g.K.Device.Disk.state (g.K.Store.disk e.flusher.store)) (g.K.Device.Disk.state (g.K.Store.disk c.report_of.result.keeper)) e.moments c.report_of.result.moments (accepted_of (entries_in fetched)) (accepted_of entries) _
-            (ap (λ k. g.K.Device.Disk.state (g.K.Store.disk k)) (sym c.report_of.ensures.keeper)) (sym c.report_of.ensures.moments) (accepted_prefix (entries_in fetched) entries (prefix_on (entries_in fetched) (entries_in sealed) entries (entries_prefix fetched sealed c.report_of.ensures.fetched) f.judged.judged.sealed)) f.flushed.flushed.course;
+            (ap (λ k. g.K.Device.Disk.state (g.K.Store.disk k)) (sym c.report_of.ensures.parts.0)) (sym c.report_of.ensures.parts.1) (accepted_prefix (entries_in fetched) entries (prefix_on (entries_in fetched) (entries_in sealed) entries (entries_prefix fetched sealed c.report_of.ensures.fetched) f.judged.judged.sealed)) f.flushed.flushed.course;
         only = λ s none. nobody_asked (inbox_at s p.middle.rings.inboxes.items) (inbox_at s e.rings.inboxes.items) (of_slot s entries) (f.judged.inboxes s) (p.only s none) (f.judged.judged.wants s);
         count = c.report_of.ensures.closed.0 ∙ (sym (map_count (λ (x : Console _ _). x.slot) e.consoles.items) ∙ ap length order);
         each = λ k s at. (
@@ -88,10 +88,10 @@ returns-clause-run g c =
               subst (λ n. HasReport reports k (length (sent_of d.0)) (length (of_slot n entries)) (length (of_slot n f.flushed.flushed.told)) (length (received_of d.0))) d.1.1 (answers k d.0 d.1.0).report,
             ));
       };
-      same = subst (λ (cs : _). AllSame p.consoles.items cs.items) (sym c.report_of.ensures.consoles) all;
-      answers = λ k d at. answers k d (ap (λ (cs : _). slice_get cs.items k) (sym c.report_of.ensures.consoles) ∙ at);
+      same = subst (λ (cs : _). AllSame p.consoles.items cs.items) (sym c.report_of.ensures.parts.2) all;
+      answers = λ k d at. answers k d (ap (λ (cs : _). slice_get cs.items k) (sym c.report_of.ensures.parts.2) ∙ at);
       failed = failed_by c.report_of.result.storage c.report_of.result.cause e.cause (λ stopped. c.report_of.ensures.cause stopped) c.report_of.result.uncaused
-          (subst (λ k. FailsForCause g.K.Store g.K.Device.Disk e.cause p.middle.flusher.store k) (sym c.report_of.ensures.keeper) f.failed);
+          (subst (λ k. FailsForCause g.K.Store g.K.Device.Disk e.cause p.middle.flusher.store k) (sym c.report_of.ensures.parts.0) f.failed);
     }
 
 pub returns-clause-accounts : goal.returns-clause-accounts
@@ -108,5 +108,5 @@ returns-clause-accounts g c =
     ∙ (ap (λ xs. states_of xs looks consoles) made.ensures.sources
     ∙ (ap (λ ls. states_of c.args.sources.items ls consoles) made.ensures.looks
     ∙ ap (λ cs. states_of c.args.sources.items p.looks.items cs) made.ensures.consoles)) in
-    subst (λ (cs : _). AllAccount did (states_of c.args.sources.items p.looks.items p.consoles.items) sources cs.items) (sym c.report_of.ensures.consoles)
+    subst (λ (cs : _). AllAccount did (states_of c.args.sources.items p.looks.items p.consoles.items) sources cs.items) (sym c.report_of.ensures.parts.2)
     (subst (λ froms. AllAccount did froms sources e.field-0.ends.consoles.items) states e.ensures.accounts)

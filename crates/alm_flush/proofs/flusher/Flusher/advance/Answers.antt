@@ -18,12 +18,12 @@ invariant_of-self g c =
     let items = c.in-Fetched.batch.entries in
     let stood = old.stored ∙ ap (λ h. run base (accepted_of (before ++ stored_of h))) was in
     let shown = old.published ∙ ap (λ h. accepted_of (before ++ published_entries h)) was in
-    let rest = c.in-Committed.ensures.stores.answer.2 in
+    let rest = c.in-Committed.ensures.step.stores.answer.2 in
     record {
       placed = old.placed;
       back = old.back;
       held_is = old.held_is ∙ ap (λ h. fetched_of old.before.value ++ batches_of h) was;
-      stored = c.in-Committed.ensures.stores.answer.1 ∙ (ap (λ p. run p (accepted_of items)) stood ∙ run_more base before items);
+      stored = c.in-Committed.ensures.step.stores.answer.1 ∙ (ap (λ p. run p (accepted_of items)) stood ∙ run_more base before items);
       published = old.published ∙ ap (λ h. accepted_of (before ++ published_entries h)) was;
       logged = old.logged ∙ ap (λ h. logged_of (before ++ published_entries h)) was;
       pending = prefix_nothing (g.B.Board.pending old.board) (logged_of items) (rw was at old.pending);
@@ -33,6 +33,6 @@ invariant_of-self g c =
       idle = λ _. rest;
       next = λ h. absurd (rest h);
       admitted = λ h. absurd (rest h);
-      ready = ap (λ p. admits_all p (accepted_of items)) (ap (run base) shown ∙ sym stood) ∙ c.in-Committed.ensures.stores.passed refl;
+      ready = ap (λ p. admits_all p (accepted_of items)) (ap (run base) shown ∙ sym stood) ∙ c.in-Committed.ensures.step.stores.passed refl;
       either = ∥∥₁_map (c.in-Committed.ensures.idle.1 refl) inl;
     }

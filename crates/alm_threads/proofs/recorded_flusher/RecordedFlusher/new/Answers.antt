@@ -54,5 +54,5 @@ invariant_of-result-clause-shown g c =
       arith,
       c.count-floor.ensures,
       ap (λ q. q.panel.count) c.requires.named.base,
-      ap length (ap g.B.Board.published c.new-flusher.ensures.parts.1 ∙ c.requires.published),
+      ap length (ap g.B.Board.published c.new-flusher.ensures.parts.1 ∙ c.requires.new_board.0),
     )
