@@ -8,12 +8,10 @@ use Rattle.std.proofs.lemmas.Bool.{cases_Bool}
 use Rattle.std.proofs.lemmas.List.{take-append-drop, append-nil}
 use Rattle.std.proofs.lemmas.List.{map-append}
 use Rattle.std.specs.Io.KnownBytes.{Appends}
-use Rattle.alm_types.specs.declared.event.Event.{Event}
-use Rattle.alm_model.specs.Plant.{Condensed}
 use Rattle.alm_lines.specs.declared.line.Line.{Line}
 use Rattle.alm_lines.specs.Line.{line_of}
 use Rattle.alm_lines.specs.Stream.{is_end, held_after, held_behind, bytes_used, line_ended}
-use Rattle.alm_desk.specs.Answers.{DeskState, SlotLine, AnsweredLine, replies, after_lines, after_line, reply, reply_on, plant_after, kept_after, failures_after, refused_after, recent_after, standing_of}
+use Rattle.alm_desk.specs.Answers.{DeskState, SlotLine, AnsweredLine, replies, after_lines, after_line, reply}
 use Rattle.alm_lines.specs.Written.{IsCutShort}
 use Rattle.alm_desk.specs.Failing.{answered_line, IsCutLine, BreaksOff}
 use Rattle.alm_desk.specs.Feeding.{lines_at, line_asked, FeedsOn, IsFedAt}
@@ -72,15 +70,10 @@ found_none : (slot : ℕ) (f : Option (List ℕ)) → option_map line_of f ≡ N
 found_none slot None e = refl
 found_none slot (Some bytes) e = cc
 
-standing_is : {p q : Option Condensed} {a b : List Condensed} {k l m n : ℕ} {x y : List Event} → p ≡ q → a ≡ b → k ≡ l → m ≡ n → x ≡ y → standing_of p a k m x ≡ standing_of q b l n y
-standing_is e d f g h = cc
-
 -- the reply to a line is cut short
-pub cut_line : (plant plant' : Option Condensed) (kept kept' : List Condensed) (failures failures' refused refused' : ℕ) (recent recent' : List Event) (s : SlotLine) (hindrance : Hindrance) (o n : Option (List ℕ))
-    → plant' ≡ plant_after plant s hindrance → kept' ≡ kept_after plant kept s hindrance → failures' ≡ failures_after plant failures s hindrance → refused' ≡ refused_after plant refused s hindrance → recent' ≡ recent_after plant recent s hindrance
-    → IsCutShort o n (reply_on plant recent s hindrance)
-    → IsCutLine (standing_of plant kept failures refused recent) s o (standing_of plant' kept' failures' refused' recent') n
-cut_line plant plant' kept kept' failures failures' refused refused' recent recent' s hindrance o n pi ei ci fi ti wi = record { hindrance = hindrance; written = wi; standing = standing_is pi ei ci fi ti }
+pub cut_line : (before later : DeskState) (s : SlotLine) (hindrance : Hindrance) (o n : Option (List ℕ))
+    → later ≡ after_line before (answered_line s hindrance) → IsCutShort o n (reply before (answered_line s hindrance)) → IsCutLine before s o later n
+cut_line before later s hindrance o n si wi = record { hindrance = hindrance; written = wi; standing = si }
 
 -- nothing was answered yet
 pub progress_none : (slot : ℕ) (before : DeskState) (held bytes : List ℕ) (old : Option (List ℕ)) → FeedsOn slot before held bytes old before held bytes old
@@ -102,13 +95,12 @@ next_line slot line holds rest n holds' rest' ni li hi ri =
 -- one line more
 pub progress_line : {slot : ℕ} {before : DeskState} {held bytes : List ℕ} {old : Option (List ℕ)} {later : DeskState} {holds rest : List ℕ} {new : Option (List ℕ)}
     → FeedsOn slot before held bytes old later holds rest new
-    → (n : ℕ) (line : Line) (hindrance : Hindrance) (plant' : Option Condensed) (kept' : List Condensed) (failures' refused' : ℕ) (recent' : List Event) (holds' rest' : List ℕ) (new' : Option (List ℕ))
+    → (n : ℕ) (line : Line) (hindrance : Hindrance) (later' : DeskState) (holds' rest' : List ℕ) (new' : Option (List ℕ))
     → n ≡ bytes_used rest → Some line ≡ option_map line_of (line_ended holds rest) → holds' ≡ held_behind holds (take n rest) → rest' ≡ drop n rest
-    → plant' ≡ plant_after later.plant (record { slot = slot; line = line }) hindrance → kept' ≡ kept_after later.plant later.kept (record { slot = slot; line = line }) hindrance → failures' ≡ failures_after later.plant later.failures (record { slot = slot; line = line }) hindrance
-    → refused' ≡ refused_after later.plant later.refused (record { slot = slot; line = line }) hindrance → recent' ≡ recent_after later.plant later.recent (record { slot = slot; line = line }) hindrance
+    → later' ≡ after_line later (answered_line (record { slot = slot; line = line }) hindrance)
     → Appends new new' (reply later (answered_line (record { slot = slot; line = line }) hindrance))
-    → FeedsOn slot before held bytes old (standing_of plant' kept' failures' refused' recent') holds' rest' new'
-progress_line {slot} {before} {held} {bytes} {old} {later} {holds} {rest} {new} p n line hindrance plant' kept' failures' refused' recent' holds' rest' new' ni li hi ri pi ei ci fi ti wi =
+    → FeedsOn slot before held bytes old later' holds' rest' new'
+progress_line {slot} {before} {held} {bytes} {old} {later} {holds} {rest} {new} p n line hindrance later' holds' rest' new' ni li hi ri si wi =
     let s : SlotLine = record { slot = slot; line = line } in
     let m = answered_line s hindrance in
     let lines = next_line slot line holds rest n holds' rest' ni li hi ri in
@@ -116,20 +108,19 @@ progress_line {slot} {before} {held} {bytes} {old} {later} {holds} {rest} {new} 
       answered = p.answered ++ m ∷ [];
       lines = rw (map-append line_asked p.answered (m ∷ []), append_assoc (map line_asked p.answered) (s ∷ []) (lines_at slot holds' rest'), ← lines) p.lines;
       written = rw (replies-append before p.answered (m ∷ []), append-nil, ← p.standing) (Appends-trans old new new' (replies before p.answered) (reply later m) p.written wi);
-      standing = rw (after_all-append before p.answered (m ∷ []), ← p.standing) (standing_is pi ei ci fi ti);
+      standing = rw (after_all-append before p.answered (m ∷ []), ← p.standing) si;
       left = rw (hi, ri) (fed_split holds rest n) ∙ p.left;
     }
 
 -- the reply to the next line is cut short
 pub progress_broken : {slot : ℕ} {before : DeskState} {held bytes : List ℕ} {old : Option (List ℕ)} {later : DeskState} {holds rest : List ℕ} {new : Option (List ℕ)}
     → FeedsOn slot before held bytes old later holds rest new
-    → (n : ℕ) (line : Line) (hindrance : Hindrance) (plant' : Option Condensed) (kept' : List Condensed) (failures' refused' : ℕ) (recent' : List Event) (holds' rest' : List ℕ) (new' : Option (List ℕ))
+    → (n : ℕ) (line : Line) (hindrance : Hindrance) (later' : DeskState) (holds' rest' : List ℕ) (new' : Option (List ℕ))
     → n ≡ bytes_used rest → Some line ≡ option_map line_of (line_ended holds rest) → holds' ≡ held_behind holds (take n rest) → rest' ≡ drop n rest
-    → plant' ≡ plant_after later.plant (record { slot = slot; line = line }) hindrance → kept' ≡ kept_after later.plant later.kept (record { slot = slot; line = line }) hindrance → failures' ≡ failures_after later.plant later.failures (record { slot = slot; line = line }) hindrance
-    → refused' ≡ refused_after later.plant later.refused (record { slot = slot; line = line }) hindrance → recent' ≡ recent_after later.plant later.recent (record { slot = slot; line = line }) hindrance
+    → later' ≡ after_line later (answered_line (record { slot = slot; line = line }) hindrance)
     → IsCutShort new new' (reply later (answered_line (record { slot = slot; line = line }) hindrance))
-    → BreaksOff before (lines_at slot held bytes) old (standing_of plant' kept' failures' refused' recent') new'
-progress_broken {slot} {before} {held} {bytes} {old} {later} {holds} {rest} {new} p n line hindrance plant' kept' failures' refused' recent' holds' rest' new' ni li hi ri pi ei ci fi ti wi =
+    → BreaksOff before (lines_at slot held bytes) old later' new'
+progress_broken {slot} {before} {held} {bytes} {old} {later} {holds} {rest} {new} p n line hindrance later' holds' rest' new' ni li hi ri si wi =
     let lines = next_line slot line holds rest n holds' rest' ni li hi ri in
     record {
       answered = p.answered;
@@ -138,7 +129,7 @@ progress_broken {slot} {before} {held} {bytes} {old} {later} {holds} {rest} {new
       all = sym (rw lines at p.lines);
       between = new;
       written = p.written;
-      cut = record { hindrance = hindrance; written = rw (← p.standing) wi; standing = rw (← p.standing) (standing_is pi ei ci fi ti) };
+      cut = record { hindrance = hindrance; written = rw (← p.standing) wi; standing = rw (← p.standing) si };
     }
 
 -- bytes that end no line

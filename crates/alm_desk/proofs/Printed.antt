@@ -1,16 +1,21 @@
 -- Bytes that a desk hears.
 use Rattle.std.proofs.Common.{◌≡◌, ℕ, ◌+◌, ◌<◌, Bool, true, false, List, [], ◌∷◌, ◌++◌, Option, length, take, drop, get_or, refl, ap, sym, ◌∙◌, append_assoc}
-use Rattle.std.specs.Prelude.{IfSome, map, if◌then◌else◌, Result, Err, ⊤}
+use Rattle.std.specs.Prelude.{IfSome, map, if◌then◌else◌, Err}
 use Rattle.std.proofs.KnownBytes.{Appends-trans, Appends-nil, Appends-kept, Consumes-nil, Consumes-trans, Consumes-whole}
 use Rattle.std.proofs.lemmas.List.{map-append, append-nil, take_more, take-append-drop}
 use Rattle.std.specs.Io.KnownBytes.{Appends, Keeps}
 use Rattle.std.proofs.Common.{inl, inr}
 use Rattle.std.proofs.lemmas.Bool.{cases_Bool}
+use Rattle.alm_types.specs.Counts.{one_more}
 use Rattle.alm_lines.specs.Stream.{is_end}
 use Rattle.alm_desk.specs.Answers.{DeskState}
 use Rattle.alm_desk.specs.DeskLines.{AnsweredBytes, IsPrinted, IsDesk, IsCutDeskLine, BreaksOffLines, held_at_desk, fed_to_desk, lines_of, line, text_printed_for, stands_after, desk_reply, desk_after, desk_line_of}
+use Rattle.alm_desk.specs.Desks.{Desk}
+use Rattle.alm_desk.specs.declared.counted_reader.CountedReader.{CountedReader}
+use Rattle.alm_desk.specs.declared.counted_writer.CountedWriter.{CountedWriter}
 use Rattle.alm_desk.specs.declared.run_fault.RunFault.{RunFault}
-use Rattle.alm_desk.specs.Turns.{IsReaderTurn, IsBroken}
+use Rattle.alm_desk.specs.declared.run_fault.RunFault.TheVariants.{Read, Write}
+use Rattle.alm_desk.specs.Turns.{IsReaderTurn, IsPrintedSoFar, IsBroken, RunEnds, RunPrints, TurnEnds}
 
 printed-append : (s : DeskState) (xs ys : List AnsweredBytes) → text_printed_for s (xs ++ ys) ≡ text_printed_for s xs ++ text_printed_for (stands_after s xs) ys
 printed-append s [] ys = refl
@@ -158,6 +163,16 @@ turns_broken {a} {b} {later} {h} {i} {r} {s} {t} {o} {m} {n} p q = record {
   broken = broken_after q.bytes p.answered q.broken;
 }
 
--- a turn's fault is the run's
-pub same_fault : (e f : RunFault) → ◌≡◌ {A = Result ⊤ RunFault} (Err e) (Err f) → ◌≡◌ {A = Result Bool RunFault} (Err e) (Err f)
-same_fault e f p = let q : e ≡ f = cc in ap Err q
+-- ---- a run ends
+
+-- what a run has answered that ends in a fault
+pub fault_prints : {a later : DeskState} {r t o n : Option (List ℕ)} (fault : RunFault) → (fault ≡ Read → IsPrintedSoFar a r o later t n) → (fault ≡ Write → IsBroken a [] r o later t n) → RunPrints (Err fault) a r o later t n
+fault_prints Read p q = p refl
+fault_prints Write p q = q refl
+
+module _ {R W : Type 0} where
+  -- turns without a failure, and one that fails
+  pub fault_ends : (fault : RunFault) (desk later : Desk) (reader between read : CountedReader R) (writer meanwhile written : CountedWriter W) → desk.closed ≡ false → between.failed ≡ reader.failed → meanwhile.failed ≡ writer.failed
+      → TurnEnds (Err fault) later between read meanwhile written → RunEnds (Err fault) desk later reader read writer written
+  fault_ends Read desk later reader between read writer meanwhile written still_open r w (c, f, v) = (still_open, c, inl (f ∙ ap one_more r), v ∙ w)
+  fault_ends Write desk later reader between read writer meanwhile written still_open r w (c, f, v) = (c, f ∙ r, inr (v ∙ ap one_more w))

@@ -1,5 +1,5 @@
 -- What the desk prints for what it reads.
-use Rattle.std.specs.Prelude.{◌≡◌, ◌⊎◌, ℕ, List, [], ◌∷◌, ◌++◌, Option, Some, length, map, codes, decimal, nat_lt, if◌then◌else◌}
+use Rattle.std.specs.Prelude.{◌≡◌, ◌⊎◌, ℕ, List, [], ◌∷◌, ◌++◌, Option, Some, IfSome, length, map, codes, decimal, nat_lt, if◌then◌else◌}
 use Rattle.std.specs.Io.KnownBytes.{Appends, Keeps}
 use Rattle.alm_types.specs.declared.refusal.Refusal.{Refusal}
 use Rattle.alm_types.specs.declared.refusal.Refusal.TheVariants.{BadLine, LineTooLong}
@@ -90,6 +90,10 @@ pub record IsDesk (before : DeskState) (input : List ℕ) (old : Option (List �
   pub lines : map line answered ≡ lines_of [] input
   pub written : Appends old new (text_printed_for before answered)
   pub standing : later ≡ stands_after before answered
+
+-- the whole of an input is answered, if it is known
+abbrev pub AnswersInput : DeskState → (input old : Option (List ℕ)) → DeskState → (new : Option (List ℕ)) → Type 0
+AnswersInput before input old later new = IfSome input (λ bytes. IsDesk before bytes old later new)
 
 -- the reply under a slot is cut short; what the line asks is done
 pub record IsCutReply (before : DeskState) (m : SlotLine) (old : Option (List ℕ)) (later : DeskState) (new : Option (List ℕ)) : Type 0 where

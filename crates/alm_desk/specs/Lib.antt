@@ -8,5 +8,6 @@ pub mod Pieces
 pub mod Whole
 pub mod DeskLines
 pub mod Reads
+pub mod Standings
 pub mod Turns
 pub mod Worked

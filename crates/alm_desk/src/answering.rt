@@ -4,8 +4,9 @@ ghost use Rattle.std.specs.Prelude.{◌≡◌, OnOk, OnErr};
 ghost use Rattle.alm_types.specs.Counts.{one_more};
 ghost use Rattle.alm_lines.specs.Reply.{text_of};
 ghost use Rattle.alm_lines.specs.Written.{Prints};
-ghost use Rattle.alm_desk.specs.Answers.{reply_on, plant_after, kept_after, failures_after, refused_after, recent_after};
+ghost use Rattle.alm_desk.specs.Answers.{reply, after_line, answered_at};
 ghost use Rattle.alm_desk.specs.Backends.{IsMomentOf};
+ghost use Rattle.alm_desk.specs.Standings.{standing_with};
 ghost use Rattle.alm_lines.specs.declared.ask.Ask.TheVariants.{Act, Look, Recall};
 
 use crate::backend::Backend;
@@ -28,21 +29,11 @@ fn act<B: Backend>(
 ) -> (Reply<'static>, Hindrance)
     requires { IsMomentOf (B.stands backend.old) notebook.old.moment }
     ensures text { text_of result.0 ≡
-        reply_on (B.stands backend.old) notebook.old.recent
-        (record { slot = slot; line = record { id = id; ask = Act want } }) result.1 }
-    ensures plant { B.stands backend.new ≡
-        plant_after (B.stands backend.old)
-        (record { slot = slot; line = record { id = id; ask = Act want } }) result.1 }
-    ensures kept { B.kept backend.new ≡
-        kept_after (B.stands backend.old) (B.kept backend.old)
-        (record { slot = slot; line = record { id = id; ask = Act want } }) result.1 }
-    ensures failures { B.failures backend.new ≡
-        failures_after (B.stands backend.old) (B.failures backend.old)
-        (record { slot = slot; line = record { id = id; ask = Act want } }) result.1 }
-    ensures refused { notebook.new.answer.refused ≡ notebook.old.answer.refused }
-    ensures recent { notebook.new.recent ≡
-        recent_after (B.stands backend.old) notebook.old.recent
-        (record { slot = slot; line = record { id = id; ask = Act want } }) result.1 }
+        reply (standing_with B.Backend backend.old notebook.old)
+        (answered_at slot (record { id = id; ask = Act want }) result.1) }
+    ensures standing { standing_with B.Backend backend.new notebook.new ≡
+        after_line (standing_with B.Backend backend.old notebook.old)
+        (answered_at slot (record { id = id; ask = Act want }) result.1) }
     ensures moment { IsMomentOf (B.stands backend.new) notebook.new.moment }
 {
     let request = Request { slot, want };
@@ -75,23 +66,11 @@ fn answer_query<B: Backend, W: Write + Drop>(
 ) -> (Hindrance, Result<(), WriteFailed>)
     requires { IsMomentOf (B.stands backend.old) notebook.old.moment }
     ensures text { Prints (W.contents writer.old.inner) (W.contents writer.new.inner)
-        (reply_on (B.stands backend.old) notebook.old.recent
-        (record { slot = slot; line = record { id = id; ask = Look query } }) result.0) result.1 }
-    ensures plant { B.stands backend.new ≡
-        plant_after (B.stands backend.old)
-        (record { slot = slot; line = record { id = id; ask = Look query } }) result.0 }
-    ensures kept { B.kept backend.new ≡
-        kept_after (B.stands backend.old) (B.kept backend.old)
-        (record { slot = slot; line = record { id = id; ask = Look query } }) result.0 }
-    ensures failures { B.failures backend.new ≡
-        failures_after (B.stands backend.old) (B.failures backend.old)
-        (record { slot = slot; line = record { id = id; ask = Look query } }) result.0 }
-    ensures refused { notebook.new.answer.refused ≡
-        refused_after (B.stands backend.old) notebook.old.answer.refused
-        (record { slot = slot; line = record { id = id; ask = Look query } }) result.0 }
-    ensures recent { notebook.new.recent ≡
-        recent_after (B.stands backend.old) notebook.old.recent
-        (record { slot = slot; line = record { id = id; ask = Look query } }) result.0 }
+        (reply (standing_with B.Backend backend.old notebook.old)
+        (answered_at slot (record { id = id; ask = Look query }) result.0)) result.1 }
+    ensures standing { standing_with B.Backend backend.new notebook.new ≡
+        after_line (standing_with B.Backend backend.old notebook.old)
+        (answered_at slot (record { id = id; ask = Look query }) result.0) }
     ensures moment { IsMomentOf (B.stands backend.new) notebook.new.moment }
     ensures whole { OnOk result.1 (writer.new.failed ≡ writer.old.failed) }
     ensures failed { OnErr result.1 (writer.new.failed ≡ one_more writer.old.failed) }
@@ -128,23 +107,11 @@ fn answer_recall<B: Backend, W: Write + Drop>(
 ) -> (Hindrance, Result<(), WriteFailed>)
     requires { IsMomentOf (B.stands backend.old) notebook.old.moment }
     ensures text { Prints (W.contents writer.old.inner) (W.contents writer.new.inner)
-        (reply_on (B.stands backend.old) notebook.old.recent
-        (record { slot = slot; line = record { id = id; ask = Recall after } }) result.0) result.1 }
-    ensures plant { B.stands backend.new ≡
-        plant_after (B.stands backend.old)
-        (record { slot = slot; line = record { id = id; ask = Recall after } }) result.0 }
-    ensures kept { B.kept backend.new ≡
-        kept_after (B.stands backend.old) (B.kept backend.old)
-        (record { slot = slot; line = record { id = id; ask = Recall after } }) result.0 }
-    ensures failures { B.failures backend.new ≡
-        failures_after (B.stands backend.old) (B.failures backend.old)
-        (record { slot = slot; line = record { id = id; ask = Recall after } }) result.0 }
-    ensures refused { notebook.new.answer.refused ≡
-        refused_after (B.stands backend.old) notebook.old.answer.refused
-        (record { slot = slot; line = record { id = id; ask = Recall after } }) result.0 }
-    ensures recent { notebook.new.recent ≡
-        recent_after (B.stands backend.old) notebook.old.recent
-        (record { slot = slot; line = record { id = id; ask = Recall after } }) result.0 }
+        (reply (standing_with B.Backend backend.old notebook.old)
+        (answered_at slot (record { id = id; ask = Recall after }) result.0)) result.1 }
+    ensures standing { standing_with B.Backend backend.new notebook.new ≡
+        after_line (standing_with B.Backend backend.old notebook.old)
+        (answered_at slot (record { id = id; ask = Recall after }) result.0) }
     ensures moment { IsMomentOf (B.stands backend.new) notebook.new.moment }
     ensures whole { OnOk result.1 (writer.new.failed ≡ writer.old.failed) }
     ensures failed { OnErr result.1 (writer.new.failed ≡ one_more writer.old.failed) }
@@ -179,21 +146,11 @@ pub fn answer_line<B: Backend, W: Write + Drop>(
 ) -> (Hindrance, Result<(), WriteFailed>)
     requires { IsMomentOf (B.stands backend.old) notebook.old.moment }
     ensures text { Prints (W.contents writer.old.inner) (W.contents writer.new.inner)
-        (reply_on (B.stands backend.old) notebook.old.recent (record { slot = slot; line = line }) result.0) result.1 }
-    ensures plant { B.stands backend.new ≡
-        plant_after (B.stands backend.old) (record { slot = slot; line = line }) result.0 }
-    ensures kept { B.kept backend.new ≡
-        kept_after (B.stands backend.old) (B.kept backend.old) (record { slot = slot; line = line })
-        result.0 }
-    ensures failures { B.failures backend.new ≡
-        failures_after (B.stands backend.old) (B.failures backend.old)
-        (record { slot = slot; line = line }) result.0 }
-    ensures refused { notebook.new.answer.refused ≡
-        refused_after (B.stands backend.old) notebook.old.answer.refused
-        (record { slot = slot; line = line }) result.0 }
-    ensures recent { notebook.new.recent ≡
-        recent_after (B.stands backend.old) notebook.old.recent
-        (record { slot = slot; line = line }) result.0 }
+        (reply (standing_with B.Backend backend.old notebook.old)
+        (answered_at slot line result.0)) result.1 }
+    ensures standing { standing_with B.Backend backend.new notebook.new ≡
+        after_line (standing_with B.Backend backend.old notebook.old)
+        (answered_at slot line result.0) }
     ensures moment { IsMomentOf (B.stands backend.new) notebook.new.moment }
     ensures whole { OnOk result.1 (writer.new.failed ≡ writer.old.failed) }
     ensures failed { OnErr result.1 (writer.new.failed ≡ one_more writer.old.failed) }

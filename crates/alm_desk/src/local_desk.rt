@@ -75,16 +75,17 @@ impl<B: Backend + Drop> LocalDesk<B> {
     ghost use Rattle.std.specs.Prelude.{◌≡◌, OnOk, IfErr, IfOk, Err, is_none, false, true, [], replicate};
     ghost use Rattle.std.specs.Io.KnownBytes.{Appends};
     ghost use Rattle.alm_lines.specs.Line.{line_of};
-    ghost use Rattle.alm_desk.specs.Answers.{reply, after_line, answered_at, standing_of};
+    ghost use Rattle.alm_desk.specs.Answers.{reply, after_line, answered_at};
     ghost use Rattle.alm_desk.specs.Desks.{IsFed, ClosesAfter, bytes_of_slot, lines_among};
     ghost use Rattle.alm_desk.specs.Failing.{BreaksOff, IsCutLine};
+    ghost use Rattle.alm_desk.specs.Standings.{first_standing};
 
     /// A desk at which nothing has happened. It takes the room for what it will remember; an error means that memory ran out.
     pub fn new(alloc: Global, backend: B) -> Result<Self, AllocError>
         ensures { IfOk result
             (λ desk. desk ≡
             record {
-              standing = standing_of (B.stands backend) (B.kept backend) (B.failures backend) 0 [];
+              standing = first_standing B.Backend backend;
               helds = replicate slot_count [];
               closed = false;
             }) }

@@ -1,11 +1,11 @@
 //! The desk over a reader and a writer.
 
-ghost use Rattle.std.specs.Prelude.{◌≡◌, ◌<◌, ◌+◌, ◌-◌, ◌^◌, ◌⊎◌, ◌∷◌, [], min, OnOk, OnErr, IfOk, IfSome, Err, false, true, length};
-ghost use Rattle.std.specs.Io.KnownBytes.{Consumes, IsAtEnd};
+ghost use Rattle.std.specs.Prelude.{◌≡◌, ◌<◌, ◌∷◌, [], OnOk, OnErr, IfOk, Err, false, true, length};
+ghost use Rattle.std.specs.Io.KnownBytes.{Consumes};
 ghost use Rattle.alm_lines.specs.Stream.{is_end};
 ghost use Rattle.alm_types.specs.Counts.{one_more};
-ghost use Rattle.alm_desk.specs.DeskLines.{IsPrinted, IsDesk, IsCutDeskLine, BreaksOffLines, desk_line_of, lines_of};
-ghost use Rattle.alm_desk.specs.Turns.{IsReaderTurn, IsPrintedSoFar, IsBroken};
+ghost use Rattle.alm_desk.specs.DeskLines.{IsPrinted, IsCutDeskLine, BreaksOffLines, desk_line_of, lines_of};
+ghost use Rattle.alm_desk.specs.Turns.{IsReaderTurn, IsBroken, RunEnds, RunPrints, TurnEnds};
 
 use crate::backend::Backend;
 use crate::counted_reader::CountedReader;
@@ -112,22 +112,16 @@ fn turn<R: Read + Drop, B: Backend + Drop, W: Write + Drop>(
         (λ more. IsReaderTurn more desk.old.standing held.old (R.remaining reader.old.inner)
         (W.contents writer.old.inner) desk.new.standing held.new (R.remaining reader.new.inner)
         (W.contents writer.new.inner)) }
-    ensures open { OnOk result (desk.new.closed ≡ false) }
+    ensures ends { TurnEnds result desk.new reader.old reader.new writer.old writer.new }
     ensures helds { desk.new.helds ≡ desk.old.helds }
     ensures reads { reader.new.reads ≡ one_more reader.old.reads }
-    ensures whole { OnOk result
-        ((reader.new.failed ≡ reader.old.failed) × (writer.new.failed ≡ writer.old.failed)) }
-    ensures read { result ≡ Err RunFault.Read → reader.new.failed ≡ one_more reader.old.failed }
     ensures still { result ≡ Err RunFault.Read →
         (desk.new ≡ desk.old) × (writer.new ≡ writer.old) ×
         Consumes (R.remaining reader.old.inner) (R.remaining reader.new.inner) [] }
-    ensures write { result ≡ Err RunFault.Write →
-        (writer.new.failed ≡ one_more writer.old.failed) × (reader.new.failed ≡ reader.old.failed) }
     ensures broken { result ≡ Err RunFault.Write →
         IsBroken desk.old.standing held.old (R.remaining reader.old.inner)
         (W.contents writer.old.inner) desk.new.standing (R.remaining reader.new.inner)
         (W.contents writer.new.inner) }
-    ensures shut { result ≡ Err RunFault.Write → desk.new.closed ≡ true }
 {
     match reader.take(piece) {
         ReadOutcome::End => Ok(false),
@@ -150,32 +144,12 @@ pub fn desk_run<R: Read + Drop, B: Backend + Drop, W: Write + Drop>(
     writer: &mut CountedWriter<W>,
     desk: &mut LocalDesk<B>,
 ) -> Result<(), RunFault>
-    ensures desk { OnOk result
-        (IfSome (R.remaining reader.old.inner)
-        (λ input. IsDesk desk.old.standing input (W.contents writer.old.inner) desk.new.standing
-        (W.contents writer.new.inner))) }
-    ensures end { OnOk result (IsAtEnd (R.remaining reader.new.inner)) }
-    ensures open { OnOk result ((desk.old.closed ≡ false) × (desk.new.closed ≡ false)) }
-    ensures whole { OnOk result
-        ((reader.new.failed ≡ reader.old.failed) × (writer.new.failed ≡ writer.old.failed)) }
-    ensures helds { desk.new.helds ≡ desk.old.helds }
-    ensures read { result ≡ Err RunFault.Read →
-        (reader.new.failed ≡ one_more reader.old.failed) ⊎
-        (reader.new.reads ≡ min (reader.old.reads + 2 ^ 32) (2 ^ 64 - 1)) }
-    ensures answered { result ≡ Err RunFault.Read →
-        IsPrintedSoFar desk.old.standing (R.remaining reader.old.inner)
+    ensures prints { desk.old.closed ≡ false →
+        RunPrints result desk.old.standing (R.remaining reader.old.inner)
         (W.contents writer.old.inner) desk.new.standing (R.remaining reader.new.inner)
         (W.contents writer.new.inner) }
-    ensures read_alone { result ≡ Err RunFault.Read →
-        (desk.old.closed ≡ false) × (desk.new.closed ≡ false) ×
-        (writer.new.failed ≡ writer.old.failed) }
-    ensures write { result ≡ Err RunFault.Write →
-        (desk.old.closed ≡ true) ⊎ (writer.new.failed ≡ one_more writer.old.failed) }
-    ensures broken { result ≡ Err RunFault.Write → desk.old.closed ≡ false →
-        IsBroken desk.old.standing [] (R.remaining reader.old.inner) (W.contents writer.old.inner)
-        desk.new.standing (R.remaining reader.new.inner) (W.contents writer.new.inner) }
-    ensures write_alone { result ≡ Err RunFault.Write →
-        (desk.new.closed ≡ true) × (reader.new.failed ≡ reader.old.failed) }
+    ensures ends { RunEnds result desk.old desk.new reader.old reader.new writer.old writer.new }
+    ensures helds { desk.new.helds ≡ desk.old.helds }
     ensures still { desk.old.closed ≡ true →
         (result ≡ Err RunFault.Write) × (desk.new ≡ desk.old) × (reader.new ≡ reader.old) ×
         (writer.new ≡ writer.old) }

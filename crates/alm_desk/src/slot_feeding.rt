@@ -2,10 +2,10 @@
 
 ghost use Rattle.std.specs.Prelude.{◌≡◌, OnOk, OnErr};
 ghost use Rattle.alm_types.specs.Counts.{one_more};
-ghost use Rattle.alm_desk.specs.Answers.{standing_of};
 ghost use Rattle.alm_desk.specs.Backends.{IsMomentOf};
 ghost use Rattle.alm_desk.specs.Failing.{BreaksOff};
 ghost use Rattle.alm_desk.specs.Feeding.{IsFedAt, lines_at};
+ghost use Rattle.alm_desk.specs.Standings.{standing_with};
 
 use crate::answering::answer_line;
 use crate::backend::Backend;
@@ -27,19 +27,15 @@ pub fn feed_slot<B: Backend, W: Write + Drop>(
 ) -> Result<(), WriteFailed>
     requires { IsMomentOf (B.stands backend.old) notebook.old.moment }
     ensures fed { OnOk result
-        (IsFedAt slot
-        (standing_of (B.stands backend.old) (B.kept backend.old) (B.failures backend.old)
-        notebook.old.answer.refused notebook.old.recent) decoder.old piece.now (W.contents writer.old.inner)
-        (standing_of (B.stands backend.new) (B.kept backend.new) (B.failures backend.new)
-        notebook.new.answer.refused notebook.new.recent) decoder.new (W.contents writer.new.inner)) }
+        (IsFedAt slot (standing_with B.Backend backend.old notebook.old) decoder.old piece.now
+        (W.contents writer.old.inner) (standing_with B.Backend backend.new notebook.new) decoder.new
+        (W.contents writer.new.inner)) }
     ensures moment { IsMomentOf (B.stands backend.new) notebook.new.moment }
     ensures whole { OnOk result (writer.new.failed ≡ writer.old.failed) }
     ensures broken { OnErr result
-        (BreaksOff
-        (standing_of (B.stands backend.old) (B.kept backend.old) (B.failures backend.old)
-        notebook.old.answer.refused notebook.old.recent) (lines_at slot decoder.old piece.now) (W.contents writer.old.inner)
-        (standing_of (B.stands backend.new) (B.kept backend.new) (B.failures backend.new)
-        notebook.new.answer.refused notebook.new.recent) (W.contents writer.new.inner)) }
+        (BreaksOff (standing_with B.Backend backend.old notebook.old)
+        (lines_at slot decoder.old piece.now) (W.contents writer.old.inner)
+        (standing_with B.Backend backend.new notebook.new) (W.contents writer.new.inner)) }
     ensures failed { OnErr result (writer.new.failed ≡ one_more writer.old.failed) }
 {
     let mut rest = piece;

@@ -1,4 +1,4 @@
-use Rattle.std.proofs.Common.{◌≡◌, ◌∙◌, ℕ, List, ◌++◌, ◌∷◌, [], Option, Some, None, Ok, sym, ap, subst}
+use Rattle.std.proofs.Common.{◌≡◌, ◌∙◌, ℕ, List, ◌++◌, ◌∷◌, [], Option, Some, None, Ok, sym, ap, subst, rules}
 use Rattle.alm_types.specs.declared.action.Action.{Action}
 use Rattle.alm_types.specs.declared.event.Event.{Event}
 use Rattle.alm_types.specs.declared.refusal.Refusal.{Refusal}
@@ -38,19 +38,21 @@ module _ (r : Request) (id m : ℕ) (recent : List Event) where
       let kept = (not_remembered q (accept q.panel r) r.slot q.panel.count recent why n (sym (ap (λ (x : JudgedRequest). x.verdict) judged.0) ∙ is)).plant in
       subst (λ o. IsMomentOf o m) (sym (judged.1 ∙ ap Some kept)) now
 
-pub returns-in-Accepted-clause-recent : goal.returns-in-Accepted-clause-recent
-returns-in-Accepted-clause-recent g c =
-    (rw c.in-Accepted.action-is at c.remember.ensures.recent)
-    ∙ accepted-recent (record { slot = c.args.slot; want = c.args.want }) c.args.id c.args.notebook.now.moment c.args.notebook.now.recent _ _ c.in-Ok.judged c.in-Accepted.action c.in-Ok.ensures.judged c.requires c.in-Accepted.is
+pub returns-in-Accepted-clause-standing : goal.returns-in-Accepted-clause-standing
+returns-in-Accepted-clause-standing g c =
+    let recent = (rw c.in-Accepted.action-is at c.remember.ensures.recent)
+    ∙ accepted-recent (record { slot = c.args.slot; want = c.args.want }) c.args.id c.args.notebook.now.moment c.args.notebook.now.recent _ _ c.in-Ok.judged c.in-Accepted.action c.in-Ok.ensures.judged c.requires c.in-Accepted.is in
+    search rules
 
 pub returns-in-Accepted-clause-moment : goal.returns-in-Accepted-clause-moment
 returns-in-Accepted-clause-moment g c =
     subst (IsMomentOf (g.B.Backend.stands c.submit.new.self)) (sym (rw c.in-Accepted.action-is at c.remember.ensures.moment))
     (accepted-moment (record { slot = c.args.slot; want = c.args.want }) c.args.id c.args.notebook.now.moment c.args.notebook.now.recent _ _ c.in-Ok.judged c.in-Accepted.action c.in-Ok.ensures.judged c.requires c.in-Accepted.is)
 
-pub returns-in-Refused-clause-recent : goal.returns-in-Refused-clause-recent
-returns-in-Refused-clause-recent g c =
-    refused-recent (record { slot = c.args.slot; want = c.args.want }) c.args.id c.args.notebook.now.moment c.args.notebook.now.recent _ _ c.in-Ok.judged _ _ c.in-Ok.ensures.judged c.in-Refused.is
+pub returns-in-Refused-clause-standing : goal.returns-in-Refused-clause-standing
+returns-in-Refused-clause-standing g c =
+    let recent = refused-recent (record { slot = c.args.slot; want = c.args.want }) c.args.id c.args.notebook.now.moment c.args.notebook.now.recent _ _ c.in-Ok.judged _ _ c.in-Ok.ensures.judged c.in-Refused.is in
+    search rules
 
 pub returns-in-Refused-clause-moment : goal.returns-in-Refused-clause-moment
 returns-in-Refused-clause-moment g c =

@@ -21,8 +21,8 @@ returns-clause-fed g c =
 
 pub loop-rest-preserved-in-Continue-1 : goal.loop-rest-preserved-in-Continue-1
 loop-rest-preserved-in-Continue-1 g c = record {
-  progress = progress_line c.loop-rest.invariant.progress c.feed-used.result.0 c.in-Some.line c.answer_line-told.result.0 _ _ _ _ _ _ _ _
-      c.feed-used.ensures.used (sym c.in-Some.is ∙ c.feed-used.ensures.line) c.feed-used.ensures.held (grind (arith, common_steps)) c.answer_line-told.ensures.plant c.answer_line-told.ensures.kept c.answer_line-told.ensures.failures c.answer_line-told.ensures.refused c.answer_line-told.ensures.recent
+  progress = progress_line c.loop-rest.invariant.progress c.feed-used.result.0 c.in-Some.line c.answer_line-told.result.0 _ _ _ _
+      c.feed-used.ensures.used (sym c.in-Some.is ∙ c.feed-used.ensures.line) c.feed-used.ensures.held (grind (arith, common_steps)) c.answer_line-told.ensures.standing
       (printed_whole _ _ _ c.answer_line-told.result.1 _ c.in_ok-told.was c.answer_line-told.ensures.text);
   moment = c.answer_line-told.ensures.moment;
   whole = (rw c.in_ok-told.was at c.answer_line-told.ensures.whole) ∙ c.loop-rest.invariant.whole;
@@ -31,6 +31,6 @@ loop-rest-preserved-in-Continue-1 g c = record {
 pub returns-in_err-told-clause-broken : goal.returns-in_err-told-clause-broken
 returns-in_err-told-clause-broken g c =
     on_err c.from_residual.result
-    (progress_broken c.loop-rest.invariant.progress c.feed-used.result.0 c.in-Some.line c.answer_line-told.result.0 _ _ _ _ _ _ _ _
-    c.feed-used.ensures.used (sym c.in-Some.is ∙ c.feed-used.ensures.line) c.feed-used.ensures.held refl c.answer_line-told.ensures.plant c.answer_line-told.ensures.kept c.answer_line-told.ensures.failures c.answer_line-told.ensures.refused c.answer_line-told.ensures.recent
+    (progress_broken c.loop-rest.invariant.progress c.feed-used.result.0 c.in-Some.line c.answer_line-told.result.0 _ _ _ _
+    c.feed-used.ensures.used (sym c.in-Some.is ∙ c.feed-used.ensures.line) c.feed-used.ensures.held refl c.answer_line-told.ensures.standing
     (printed_front _ _ _ c.answer_line-told.result.1 _ c.in_err-told.was c.answer_line-told.ensures.text))
