@@ -20,7 +20,7 @@ module _ {D : Type 0} (serves : D → Call → Result Unit DiskFault → D → T
       let done = is.done in
       record { reads = is.reads; are_reads = is.are_reads; made = inr (done.0, done.1, all_done is.reads done.0 b done.2) }
 
--- it was opened, and is given back for want of memory
+-- it was opened, and is given back since its parts found no memory
 pub given_back_behind : {D : Type 0} (d : Disk.Ghosts D) (recovers : List ℕ → Condensed → Type 0) (plant : Condensed) (old new : D) → IsOpenedAs d recovers plant old new → IsGivenBack d recovers OutOfMemory old new
 given_back_behind d recovers plant old new is = record {
   made = refused_behind d.serves old new is.made;

@@ -125,20 +125,20 @@ IsInner step = Unit {0}
 
 module _ {K D : Type 0} {g : Ghosts K D} {d : Disk.Ghosts D} where
   -- its device
-  abbrev pub device_of : Pipeline K D g d → D
-  device_of p = g.disk p.flusher.store
+  abbrev pub disk_of : Pipeline K D g d → D
+  disk_of p = g.disk p.flusher.store
 
   -- the device keeps to the model after exactly if it did before
   abbrev pub StaysHonest : (old new : Pipeline K D g d) → Type 0
-  StaysHonest old new = d.honest (device_of old) ↔ d.honest (device_of new)
+  StaysHonest old new = d.honest (disk_of old) ↔ d.honest (disk_of new)
 
   -- the device failed in between
   abbrev pub DeviceFailed : (old new : Pipeline K D g d) → Type 0
-  DeviceFailed old new = HasFailed (d.failures (device_of old)) (d.failures (device_of new))
+  DeviceFailed old new = HasFailed (d.failures (disk_of old)) (d.failures (disk_of new))
 
   -- the device is as it was, and so is the work on it
   abbrev pub LeavesDevice : (old new : Pipeline K D g d) → Type 0
-  LeavesDevice old new = (d.state (device_of new) ≡ d.state (device_of old)) × (d.failures (device_of new) ≡ d.failures (device_of old)) × ((g.state new.flusher.store).phase ≡ (g.state old.flusher.store).phase)
+  LeavesDevice old new = (d.state (disk_of new) ≡ d.state (disk_of old)) × (d.failures (disk_of new) ≡ d.failures (disk_of old)) × ((g.state new.flusher.store).phase ≡ (g.state old.flusher.store).phase)
 
   -- what contracts see of its device, if n growths were refused
   abbrev pub sight_in : ℕ → Pipeline K D g d → Sight

@@ -43,7 +43,7 @@ pub struct Pipeline<K: Store> {
 impl<K: Store> Pipeline<K> {
     ghost use Rattle.std.specs.Prelude.{◌≡◌, ◌↔◌, ◌≤◌, ◌<◌, ◌+◌, ℕ, length, slice_get, IsSome};
     ghost use Rattle.alm_flush.specs.HeldBatch.{to_commit};
-    ghost use Rattle.alm_pipeline.specs.Matches.{MatchesWorld, MatchesOpenWorld, DeviceFailed, LeavesDevice, StaysHonest, device_of, KnowsAtSlot, KnowsAll, CallFits, CallsSurely, CommitsIn, EndsAfter, StepsInPace, event_of_call, IsInner, sight_in};
+    ghost use Rattle.alm_pipeline.specs.Matches.{MatchesWorld, MatchesOpenWorld, DeviceFailed, LeavesDevice, StaysHonest, disk_of, KnowsAtSlot, KnowsAll, CallFits, CallsSurely, CommitsIn, EndsAfter, StepsInPace, event_of_call, IsInner, sight_in};
     ghost use Rattle.alm_pipeline.specs.declared.step.Step.TheVariants as S;
     ghost use Rattle.alm_pipeline.specs.Headline.{Moves, Headline};
     ghost use Rattle.alm_rings.specs.Batches.{emptied_of, given_of};
@@ -174,7 +174,7 @@ impl<K: Store> Pipeline<K> {
         ensures fits { (w : World) → MatchesOpenWorld w self.old →
             CallFits w (event_of_call result) self.new }
         ensures honest { StaysHonest self.old self.new }
-        ensures moves { K.Device.honest (device_of self.old) → (w : World) →
+        ensures moves { K.Device.honest (disk_of self.old) → (w : World) →
             MatchesOpenWorld w self.old → (refused : ℕ) →
             Moves K.recovers K.spent w S.Call (event_of_call result) (sight_in refused self.old)
             (sight_in refused self.new) }
@@ -184,8 +184,8 @@ impl<K: Store> Pipeline<K> {
         // It fails only if the device failed in it, or if a checkpoint was due in the last epoch.
         ensures late { result ≡ Advance.Failed → ¬ (K.exhausted self.new.flusher.store) →
             (w : World) → MatchesOpenWorld w self.old → DeviceFailed self.old self.new }
-        ensures count { K.Device.failures (device_of self.old) ≤
-            K.Device.failures (device_of self.new) }
+        ensures count { K.Device.failures (disk_of self.old) ≤
+            K.Device.failures (disk_of self.new) }
         // A batch is committed in a bounded number of calls.
         ensures ends { (m : ℕ) → result ≡ Advance.More →
             0 < length (to_commit self.old.flusher.held) → CommitsIn (m + 1) self.old →

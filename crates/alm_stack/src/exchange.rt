@@ -12,7 +12,7 @@ ghost use Rattle.alm_types.specs.Sizes.{most_entries};
 ghost use Rattle.alm_pipeline.specs.declared.step.Step.TheVariants as S;
 ghost use Rattle.alm_pipeline.specs.declared.step_event.StepEvent.TheVariants as E;
 ghost use Rattle.alm_pipeline.specs.World.{World, Held, after_step, live, closed_world};
-ghost use Rattle.alm_pipeline.specs.Matches.{MatchesWorld, MatchesOpenWorld, DeviceFailed, StaysHonest, device_of};
+ghost use Rattle.alm_pipeline.specs.Matches.{MatchesWorld, MatchesOpenWorld, DeviceFailed, StaysHonest, disk_of};
 ghost use Rattle.alm_stack.specs.Exchanges.{IsCommitWay, IsExchange, IsHandedIn, IsHandedOut, IsIdle, IsWay, Rests, MayWait};
 ghost use Rattle.alm_stack.specs.Exchanges.{calls, stored_world};
 
@@ -30,8 +30,8 @@ const MOST_CALLS: u32 = 647;
 /// Its clauses also say what a crash leaves before each step.
 fn hand_in<K: Store>(pipeline: &mut Pipeline<K>, slot: Slot, want: Want) -> bool
     ensures honest { StaysHonest pipeline.old pipeline.new }
-    ensures failures { K.Device.failures (device_of pipeline.new) ≡
-        K.Device.failures (device_of pipeline.old) }
+    ensures failures { K.Device.failures (disk_of pipeline.new) ≡
+        K.Device.failures (disk_of pipeline.old) }
     ensures handed { IsTrue result → (w : World) → Rests w pipeline.old →
         IsHandedIn w slot want pipeline.old pipeline.new }
     ensures spent { result ≡ false → (w : World) → Rests w pipeline.old →
@@ -61,8 +61,8 @@ fn hand_in<K: Store>(pipeline: &mut Pipeline<K>, slot: Slot, want: Want) -> bool
 /// Makes device calls until the fetched batch is committed: whether that was done.
 fn commit<K: Store>(pipeline: &mut Pipeline<K>) -> bool
     ensures honest { StaysHonest pipeline.old pipeline.new }
-    ensures count { K.Device.failures (device_of pipeline.old) ≤
-        K.Device.failures (device_of pipeline.new) }
+    ensures count { K.Device.failures (disk_of pipeline.old) ≤
+        K.Device.failures (disk_of pipeline.new) }
     ensures done { IsTrue result → (w : World) (entries : List Entry) → MatchesOpenWorld w pipeline.old →
         w.stage ≡ Held entries → length (accepted_of entries) ≤ most_entries →
         MatchesOpenWorld (after_step w S.Call E.Committed) pipeline.new ×
@@ -129,8 +129,8 @@ pub fn exchange<K: Store>(
     want: Want,
 ) -> Result<JudgedRequest, Stopped>
     ensures honest { StaysHonest pipeline.old pipeline.new }
-    ensures count { K.Device.failures (device_of pipeline.old) ≤
-        K.Device.failures (device_of pipeline.new) }
+    ensures count { K.Device.failures (disk_of pipeline.old) ≤
+        K.Device.failures (disk_of pipeline.new) }
     ensures judged { IfOk result (λ j. (w : World) → Rests w pipeline.old →
         (j ≡ judged_on (live w) (request slot want)) × (w' : World) × Rests w' pipeline.new ×
         (live w' ≡ if_accepted (live w) (accept (live w).panel (request slot want)))) }
