@@ -7,16 +7,18 @@ use Rattle.alm_lines.specs.declared.ask.Ask.{Ask}
 use Rattle.alm_lines.specs.declared.ask.Ask.TheVariants.{Act}
 use Rattle.alm_lines.specs.declared.line.Line.{Line}
 use Rattle.alm_types.specs.Sizes.{most_out}
+use Rattle.alm_model.specs.Plant.{Condensed}
 use Rattle.alm_rings.specs.declared.told.Told.{Ghosts}
 use Rattle.alm_rings.specs.declared.console.Console.{Console}
 use Rattle.alm_rings.specs.declared.receipt.Receipt.{Receipt}
 use Rattle.alm_rings.specs.Ends.{sent_of, received_of, coming_to, room_of}
 use Rattle.alm_session.specs.Wires.{Counts, WireInput, blocked_read, blocked_write, failed_call}
-use Rattle.alm_session.specs.Turns.{SlotState}
+use Rattle.alm_session.specs.Turns.{IsTurn, Looks, SlotState}
 use Rattle.alm_session.specs.Unanswered.{Heard}
 use Rattle.alm_session.specs.declared.session.Session.{Session}
 use Rattle.alm_session.specs.declared.turn.Turn.{Turn}
 use Rattle.alm_session.specs.declared.turn.Turn.TheVariants.{Went, Idle, Ended, Fault}
+use Rattle.alm_session.specs.declared.wire.Wire
 
 module _ {T : Type 0} {g : Ghosts T} where
   abbrev pub heard_of : Receipt T g → Heard
@@ -28,6 +30,26 @@ module _ {T : Type 0} {g : Ghosts T} where
 -- one slot's side, with what the slot knows, the bytes of the wire, and all that was sent and received
 abbrev pub slot_state : Session → List Action → WireInput → (written : List ℕ) → List Want → List Heard → SlotState
 slot_state s known input written sent heard = record { held = s.intake; waiting = s.waiting.items; left = s.output.left; refused = s.answer.refused; known = known; input = input; written = written; sent = sent; heard = heard }
+
+-- something was done that neither read nor wrote, neither sent nor received: at least `n` steps of a turn, whatever was before
+abbrev pub IsTurnWithin : Looks → Condensed → (n : ℕ) → (was now : Session) → (knew knows : List Action) → Type 0
+IsTurnWithin looks base n was now knew knows =
+    (input : WireInput) (written : List ℕ) (sent : List Want) (heard : List Heard)
+    → IsTurn looks base n (slot_state was knew input written sent heard) (slot_state now knows input written sent heard)
+
+module _ {T : Type 0} {g : Ghosts T} where
+  -- one slot's side, with all that its console sent and received
+  abbrev pub side_at : Session → List Action → WireInput → (written : List ℕ) → Console T g → SlotState
+  side_at s known input written console = slot_state s known input written (sent_of console) (heard_by console)
+
+  -- the same over this wire
+  abbrev pub side_over : {W : Type 0} → Wire.Ghosts W → Session → List Action → W → Console T g → SlotState
+  side_over wire s known over console = side_at s known (wire.input over) (wire.written over) console
+
+  -- something was done at the console that neither read nor wrote, whatever was before
+  abbrev pub IsTurnAtConsole : Looks → Condensed → (n : ℕ) → (was now : Session) → (knew knows : List Action) → (before after : Console T g) → Type 0
+  IsTurnAtConsole looks base n was now knew knows before after =
+      (input : WireInput) (written : List ℕ) → IsTurn looks base n (side_at was knew input written before) (side_at now knows input written after)
 
 -- at least one, if the turn went
 abbrev pub least_of : Turn → ℕ

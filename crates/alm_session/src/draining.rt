@@ -1,10 +1,9 @@
 //! The requests and receipts that a lost connection leaves.
 
-ghost use Rattle.std.specs.Prelude.{◌≡◌, ◌↔◌, ◌≤◌, ◌+◌, ◌⊎◌, IsTrue, length, false, true};
+ghost use Rattle.std.specs.Prelude.{◌≡◌, ◌↔◌, ◌≤◌, ◌+◌, IsTrue, length, false, true};
 ghost use Rattle.alm_rings.specs.Ends.{SameConsole, sent_of, received_of};
-ghost use Rattle.alm_session.specs.Draining.{IsDrained};
+ghost use Rattle.alm_session.specs.Draining.{HasReceivedAll, IsDrained};
 ghost use Rattle.alm_session.specs.Sides.{heard_by, IsQuiet};
-ghost use Rattle.alm_types.specs.Sizes.{most_out};
 
 use alm_board::FreeLook;
 use alm_rings::{Console, Told};
@@ -37,8 +36,7 @@ pub fn drain<T: Told + Drop, L: FreeLook<Told = T>>(console: &mut Console<T>, lo
     ensures sent { sent_of console.new ≡ sent_of console.old }
     ensures drained { IsDrained (L.Look.base look.old) (L.Look.knows look.old)
         (heard_by console.old) (L.Look.knows look.new) (heard_by console.new) }
-    ensures all { IsQuiet console.new ⊎
-        (length (received_of console.old) + most_out ≤ length (received_of console.new)) }
+    ensures all { HasReceivedAll console.old console.new }
     ensures settled { IsTrue result ↔
         (length (sent_of console.new) ≤ length (received_of console.new)) }
 {

@@ -35,19 +35,18 @@ pub struct Session {
 impl Session {
     ghost use Rattle.std.specs.Prelude.{◌≡◌, ◌+◌, ◌≤◌, ◌<◌, ◌⊎◌, ℕ, List, [], ◌∷◌, length, Option, None, Some, IfOk, true, false};
     ghost use Rattle.arrayvec.specs.ArrayVec.{array_vec_len};
-    ghost use Rattle.alm_rings.specs.Ends.{SameConsole, coming_to, received_of, sent_of};
+    ghost use Rattle.alm_rings.specs.Ends.{SameConsole, coming_to, received_of};
     ghost use Rattle.alm_session.specs.Intakes.{lines_in};
     ghost use Rattle.alm_session.specs.Turns.{IsTurn, between, no_looks};
     ghost use Rattle.alm_session.specs.Unanswered.{Heard, IsReceiptOf};
     ghost use Rattle.alm_session.specs.declared.unanswered.Unanswered.{Unanswered};
     ghost use Rattle.alm_types.specs.declared.action.Action.{Action};
     ghost use Rattle.alm_types.specs.declared.want.Want.{Want};
-    ghost use Rattle.alm_session.specs.Sides.{slot_state, heard_by, heard_of, least_of, IsQuiet, IsStuck, ReadTurns, GoOnTurns, Turns};
+    ghost use Rattle.alm_session.specs.Sides.{slot_state, side_over, heard_of, least_of, IsQuiet, IsStuck, IsTurnAtConsole, IsTurnWithin, ReadTurns, GoOnTurns, Turns};
     ghost use Rattle.std.specs.Prelude.{◌++◌, if◌then◌else◌, IsTrue};
     ghost use Rattle.alm_model.specs.Plant.{Condensed};
     ghost use Rattle.alm_lines.specs.Reply.{no_text};
     ghost use Rattle.alm_desk.specs.Answers.{verdict_reply};
-    ghost use Rattle.alm_session.specs.Wires.{WireInput};
     ghost use Rattle.alm_session.specs.declared.turn.Turn.TheVariants as turn;
     ghost use Rattle.alm_lines.specs.declared.ask.Ask.TheVariants as ask;
 
@@ -121,12 +120,9 @@ impl Session {
     ) -> bool
         ensures base { L.Look.base look.new ≡ L.Look.base look.old }
         ensures end { SameConsole console.old console.new }
-        ensures turn { (input : WireInput) (written : List ℕ) →
-            IsTurn no_looks (L.Look.base look.old) (if result then 1 else 0)
-            (slot_state self.old (L.Look.knows look.old) input written (sent_of console.old)
-            (heard_by console.old))
-            (slot_state self.new (L.Look.knows look.new) input written (sent_of console.new)
-            (heard_by console.new)) }
+        ensures turn { IsTurnAtConsole no_looks (L.Look.base look.old) (if result then 1 else 0)
+            self.old self.new (L.Look.knows look.old) (L.Look.knows look.new)
+            console.old console.new }
         ensures quiet { result ≡ false → IsQuiet console.old }
         ensures one { result ≡ true →
             length (received_of console.new) ≡ length (received_of console.old) + 1 }
@@ -152,10 +148,9 @@ impl Session {
         requires line { self.old.intake.line ≡ Some (record { id = id; ask = ask.Act want }) }
         requires empty { self.old.output.used ≡ 0 }
         ensures end { SameConsole console.old console.new }
-        ensures turn { (base : Condensed) (known : List Action) (input : WireInput) (written : List ℕ) →
-            IsTurn no_looks base (least_of result)
-            (slot_state self.old known input written (sent_of console.old) (heard_by console.old))
-            (slot_state self.new known input written (sent_of console.new) (heard_by console.new)) }
+        ensures turn { (base : Condensed) (known : List Action) →
+            IsTurnAtConsole no_looks base (least_of result) self.old self.new known known
+            console.old console.new }
         ensures cases { (result ≡ turn.Went) ⊎
             ((result ≡ turn.Idle) × IsStuck self.new console.new) }
         ensures left { self.new.output ≡ self.old.output }
@@ -187,11 +182,9 @@ impl Session {
         requires empty { (self.old.output.left ≡ []) × (self.old.output.used ≡ 0) }
         requires alone { self.old.waiting.items ≡ [] }
         ensures base { L.Look.base look.new ≡ L.Look.base look.old }
-        ensures turn { (input : WireInput) (written : List ℕ) (sent : List Want)
-            (heard : List Heard) →
-            IsTurn (between L.Look.looked L.recalled look.old look.new) (L.Look.base look.old) 1
-            (slot_state self.old (L.Look.knows look.old) input written sent heard)
-            (slot_state self.new (L.Look.knows look.new) input written sent heard) }
+        ensures turn { IsTurnWithin (between L.Look.looked L.recalled look.old look.new)
+            (L.Look.base look.old) 1 self.old self.new (L.Look.knows look.old)
+            (L.Look.knows look.new) }
     {
         self.intake.pass();
         match look.look(query, &mut self.answer) {
@@ -210,11 +203,9 @@ impl Session {
         requires empty { (self.old.output.left ≡ []) × (self.old.output.used ≡ 0) }
         requires alone { self.old.waiting.items ≡ [] }
         ensures base { L.Look.base look.new ≡ L.Look.base look.old }
-        ensures turn { (input : WireInput) (written : List ℕ) (sent : List Want)
-            (heard : List Heard) →
-            IsTurn (between L.Look.looked L.recalled look.old look.new) (L.Look.base look.old) 1
-            (slot_state self.old (L.Look.knows look.old) input written sent heard)
-            (slot_state self.new (L.Look.knows look.new) input written sent heard) }
+        ensures turn { IsTurnWithin (between L.Look.looked L.recalled look.old look.new)
+            (L.Look.base look.old) 1 self.old self.new (L.Look.knows look.old)
+            (L.Look.knows look.new) }
     {
         self.intake.pass();
         match look.recall(after, &mut self.events) {
@@ -248,13 +239,9 @@ impl Session {
         requires empty { (self.old.output.left ≡ []) × (self.old.output.used ≡ 0) }
         ensures base { L.Look.base look.new ≡ L.Look.base look.old }
         ensures end { SameConsole console.old console.new }
-        ensures turn { (input : WireInput) (written : List ℕ) →
-            IsTurn (between L.Look.looked L.Recall.recalled look.old look.new) (L.Look.base look.old)
-            (least_of result)
-            (slot_state self.old (L.Look.knows look.old) input written (sent_of console.old)
-            (heard_by console.old))
-            (slot_state self.new (L.Look.knows look.new) input written (sent_of console.new)
-            (heard_by console.new)) }
+        ensures turn { IsTurnAtConsole (between L.Look.looked L.Recall.recalled look.old look.new)
+            (L.Look.base look.old) (least_of result) self.old self.new
+            (L.Look.knows look.old) (L.Look.knows look.new) console.old console.new }
         ensures cases { (result ≡ turn.Went) ⊎
             ((result ≡ turn.Idle) × IsStuck self.new console.new × (self.new.output.left ≡ [])) }
     {
@@ -320,12 +307,10 @@ impl Session {
         requires empty { (self.old.output.left ≡ []) × (self.old.output.used ≡ 0) }
         ensures base { L.Look.base look.new ≡ L.Look.base look.old }
         ensures end { SameConsole console.old console.new }
-        ensures turn { IsTurn (between L.Look.looked L.Recall.recalled look.old look.new) (L.Look.base look.old)
-            (least_of result)
-            (slot_state self.old (L.Look.knows look.old) (W.input wire.old) (W.written wire.old)
-            (sent_of console.old) (heard_by console.old))
-            (slot_state self.new (L.Look.knows look.new) (W.input wire.new) (W.written wire.new)
-            (sent_of console.new) (heard_by console.new)) }
+        ensures turn { IsTurn (between L.Look.looked L.Recall.recalled look.old look.new)
+            (L.Look.base look.old) (least_of result)
+            (side_over W.Wire self.old (L.Look.knows look.old) wire.old console.old)
+            (side_over W.Wire self.new (L.Look.knows look.new) wire.new console.new) }
         ensures answer { GoOnTurns result self.new console.new (W.counts wire.old) (W.counts wire.new)
             (W.input wire.new).coming }
         ensures takes_first { 0 < length (lines_in self.old.intake) →
@@ -346,12 +331,10 @@ impl Session {
     ) -> Turn
         ensures base { L.Look.base look.new ≡ L.Look.base look.old }
         ensures end { SameConsole console.old console.new }
-        ensures turn { IsTurn (between L.Look.looked L.Recall.recalled look.old look.new) (L.Look.base look.old)
-            (least_of result)
-            (slot_state self.old (L.Look.knows look.old) (W.input wire.old) (W.written wire.old)
-            (sent_of console.old) (heard_by console.old))
-            (slot_state self.new (L.Look.knows look.new) (W.input wire.new) (W.written wire.new)
-            (sent_of console.new) (heard_by console.new)) }
+        ensures turn { IsTurn (between L.Look.looked L.Recall.recalled look.old look.new)
+            (L.Look.base look.old) (least_of result)
+            (side_over W.Wire self.old (L.Look.knows look.old) wire.old console.old)
+            (side_over W.Wire self.new (L.Look.knows look.new) wire.new console.new) }
         ensures answer { Turns result self.new console.old console.new (W.counts wire.old)
             (W.counts wire.new) (W.input wire.new).coming }
         // While a receipt is known to wait, a turn receives one and makes no call on the wire.
