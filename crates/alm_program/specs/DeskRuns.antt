@@ -1,5 +1,5 @@
 -- What a desk over a device has done.
-use Rattle.std.specs.Prelude.{◌≡◌, ◌↔◌, ◌⊎◌, ℕ, List, [], ◌∷◌, Contains, Option, Some, Result, OnOk, IfSome}
+use Rattle.std.specs.Prelude.{◌≡◌, ◌↔◌, ◌⊎◌, ℕ, List, [], ◌∷◌, Contains, Option, Some, Result, OnOk}
 use Rattle.alm_types.specs.declared.request.Request.{Request}
 use Rattle.alm_model.specs.Plant.{Condensed}
 use Rattle.alm_disk.specs.Device.{IsImage}
@@ -7,7 +7,7 @@ use Rattle.alm_disk.specs.Failures.{HasFailed}
 use Rattle.alm_disk.specs.declared.disk.Disk
 use Rattle.alm_desk.specs.Answers.{DeskState, standing_of}
 use Rattle.alm_desk.specs.Backends.{IsJudged, kept_by}
-use Rattle.alm_desk.specs.DeskLines.{IsDesk}
+use Rattle.alm_desk.specs.DeskLines.{AnswersInput}
 use Rattle.alm_desk.specs.declared.judged_request.JudgedRequest.{JudgedRequest}
 use Rattle.alm_desk.specs.declared.stopped.Stopped.{Stopped}
 use Rattle.alm_file.specs.declared.file_fault.FileFault.{FileFault}
@@ -37,7 +37,7 @@ AreJudgedAtDesk plant kept (j ∷ js) later kept_later =
 pub record RunsDesk {D : Type 0} (d : Disk.Ghosts D) (base : Condensed) (honest_before : Type 0) (back : D) (input old new : Option (List ℕ)) (done : Result Unit Fault) (later : DeskState) : Type 0 where
   pub honest : ∥ (honest_before ↔ d.honest back) ∥₁
   pub judged : ∥ ((js : List JudgedAtDesk) × AreJudgedAtDesk (Some base) (base ∷ []) js later.plant later.kept) ∥₁
-  pub printed : OnOk done (IfSome input (λ bytes. IsDesk (standing_of (Some base) (base ∷ []) 0 0 []) bytes old later new))
+  pub printed : OnOk done (AnswersInput (standing_of (Some base) (base ∷ []) 0 0 []) input old later new)
   pub holds : d.honest back → (image : List ℕ) → IsImage (d.state back) image → ∥ ((plant : Condensed) × Contains later.kept plant × StandsFor image plant) ∥₁
 
 -- the device was opened by an opening's calls, and reads as one of its images. If what it gave was that, this is the plant that the image

@@ -1,5 +1,5 @@
 -- By which fault a command ends for which cause.
-use Rattle.std.specs.Prelude.{◌≡◌, ◌⊎◌, ◌+◌, ◌-◌, ◌^◌, ℕ, min, Bool, true, false, List, Option, Result, Ok, Err}
+use Rattle.std.specs.Prelude.{◌≡◌, ℕ, Bool, true, false, List, Option, Result, Ok, Err}
 use Rattle.std.specs.Io.KnownBytes.{Appends}
 use Rattle.alm_types.specs.Counts.{one_more}
 use Rattle.alm_model.specs.Plant.{Condensed}
@@ -7,14 +7,6 @@ use Rattle.alm_lines.specs.Written.{IsCutShort}
 use Rattle.alm_export.specs.Exported.{IsTableText}
 use Rattle.alm_program.specs.declared.fault.Fault.{Fault}
 use Rattle.alm_program.specs.declared.fault.Fault.TheVariants.{Stopped, OutOfMemory, Io}
-
--- a read failed, or 2^32 of them gave no end
-abbrev pub IsUnread : (failed failed_now reads reads_now : ℕ) → Type 0
-IsUnread failed failed_now reads reads_now = (failed_now ≡ one_more failed) ⊎ (reads_now ≡ min (reads + 2 ^ 32) (2 ^ 64 - 1))
-
--- a write failed, or the desk was closed before
-abbrev pub IsUnwritten : (closed : Bool) → (failed failed_now : ℕ) → Type 0
-IsUnwritten closed failed failed_now = (closed ≡ true) ⊎ (failed_now ≡ one_more failed)
 
 -- how a desk ends, whose storage has stopped or not, and whose reader or writer has a cause to fail
 abbrev pub DeskEnds : (has_stopped : Bool) → (fails : Type 0) → Result Unit Fault → Type 0

@@ -9,3 +9,4 @@ pub mod ServeOrders
 pub mod OwnedEndpoints
 pub mod Ends
 pub mod DeskRuns
+pub mod ToPrint

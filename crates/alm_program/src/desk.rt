@@ -5,13 +5,15 @@ ghost use Rattle.alm_disk.specs.Device.{IsImage};
 ghost use Rattle.alm_disk.specs.Failures.{HasFailed};
 ghost use Rattle.alm_file.specs.Replay.{BeginsAs};
 ghost use Rattle.alm_keeper.specs.AsStore.{StandsFor};
-ghost use Rattle.alm_desk.specs.Answers.{DeskState, standing_of};
-ghost use Rattle.alm_desk.specs.DeskLines.{IsDesk};
+ghost use Rattle.alm_desk.specs.Answers.{DeskState};
+ghost use Rattle.alm_desk.specs.DeskLines.{AnswersInput};
+ghost use Rattle.alm_desk.specs.Standings.{first_standing};
+ghost use Rattle.alm_desk.specs.Turns.{IsUnread, IsUnwritten};
 ghost use Rattle.alm_stack.specs.Stacks.{kept_of, stands_of, store_of};
 ghost use Rattle.alm_store.specs.Calls.{IsRefusedBy, OpensBy};
 ghost use Rattle.alm_store.specs.Opening.{HasCause};
 ghost use Rattle.alm_program.specs.DeskRuns.{IsDeskFrom, IsDeskOver, IsNotRun, IsNotRunFrom, RunsDesk};
-ghost use Rattle.alm_program.specs.Ends.{DeskEnds, IsUnread, IsUnwritten};
+ghost use Rattle.alm_program.specs.Ends.{DeskEnds};
 ghost use Rattle.alm_program.specs.Faults.{fault_of_open};
 
 use crate::desk_end::DeskEnd;
@@ -39,9 +41,8 @@ fn run_between<I: Read + Drop, B: Backend + Drop, W: Write + Drop>(
     desk: &mut LocalDesk<B>,
 ) -> Result<(), Fault>
     ensures desk { OnOk result
-        (IfSome (I.remaining reader.old.inner)
-        (λ input. IsDesk desk.old.standing input (W.contents writer.old.inner) desk.new.standing
-        (W.contents writer.new.inner))) }
+        (AnswersInput desk.old.standing (I.remaining reader.old.inner)
+        (W.contents writer.old.inner) desk.new.standing (W.contents writer.new.inner)) }
     ensures ends { DeskEnds (is_none desk.new.standing.plant)
         (IsUnread reader.old.failed reader.new.failed reader.old.reads reader.new.reads ⊎
         IsUnwritten desk.old.closed writer.old.failed writer.new.failed) result }
@@ -109,11 +110,11 @@ fn run_backend_between<I: Read + Drop, B: Backend + Drop, W: Write + Drop>(
     writer: &mut CountedWriter<W>,
 ) -> Result<DeskEnd<B>, AllocError>
     ensures { IfOk result
-        (λ end. (later : DeskState) × (B.stands end.back ≡ later.plant) × (B.kept end.back ≡ later.kept) ×
+        (λ end. (later : DeskState) × (B.stands end.back ≡ later.plant) ×
+        (B.kept end.back ≡ later.kept) ×
         OnOk end.done
-        (IfSome (I.remaining reader.old.inner)
-        (λ input. IsDesk (standing_of (B.stands backend) (B.kept backend) (B.failures backend) 0 []) input
-        (W.contents writer.old.inner) later (W.contents writer.new.inner)))) }
+        (AnswersInput (first_standing B.Backend backend) (I.remaining reader.old.inner)
+        (W.contents writer.old.inner) later (W.contents writer.new.inner))) }
 {
     let mut desk = LocalDesk::new(alloc, backend)?;
     let done = run_between(reader, writer, &mut desk);

@@ -1,17 +1,11 @@
 //! What is shown of a device.
 
-ghost use Rattle.std.specs.Prelude.{◌≡◌, ℕ, List, Err, IfOk, IfErr};
-ghost use Rattle.alm_checkpoint.specs.declared.half.Half.{Half};
-ghost use Rattle.alm_checkpoint.specs.declared.layout.Layout.{Layout};
-ghost use Rattle.alm_disk.specs.Device.{IsImage};
-ghost use Rattle.alm_keeper.specs.Calls.{reads_of};
+ghost use Rattle.std.specs.Prelude.{IfOk, IfErr};
 ghost use Rattle.alm_keeper.specs.Keeper.{StandsWithRoom};
-ghost use Rattle.alm_keeper.specs.Opening.{CountsAs, OpensAs};
 ghost use Rattle.alm_lines.specs.Written.{Prints};
 ghost use Rattle.alm_export.specs.Showing.{plant_text};
-ghost use Rattle.alm_store.specs.Calls.{SyncsAndEndsIn};
 ghost use Rattle.alm_program.specs.Ends.{PrintEnds};
-ghost use Rattle.alm_program.specs.Faults.{fault_of_open};
+ghost use Rattle.alm_program.specs.ToPrint.{HasNoNewImage, IsNotOpenedToPrint};
 
 use crate::fault::Fault;
 use crate::io_faults::{file_fault, io_fault};
@@ -19,7 +13,7 @@ use alm_desk::CountedWriter;
 use alm_disk::Disk;
 use alm_export::show_plant;
 use alm_file::{FileDisk, Start};
-use alm_keeper::{Keeper, OpenFault, open_store};
+use alm_keeper::{Keeper, open_store};
 use alm_types::Answer;
 use std::alloc::Global;
 use std::fs::{File, Files};
@@ -31,15 +25,9 @@ fn open_to_print<D: Disk + Drop>(alloc: Global, disk: D) -> Result<Keeper<D>, Fa
         (λ keeper. D.honest keeper.disk →
         StandsWithRoom keeper.stored (D.state keeper.disk).bytes) }
     ensures unwritten { D.honest disk →
-        IfOk result
-        (λ keeper. (b : List ℕ) → IsImage (D.state keeper.disk) b → IsImage (D.state disk) b) }
+        IfOk result (λ keeper. HasNoNewImage (D.state disk) (D.state keeper.disk)) }
     // The fault is that of a device that this one is after an opening's calls.
-    ensures refused { IfErr result
-        (λ fault. (why : OpenFault) × (now : D) × (layout : Layout) × (half : Half) ×
-        (fault ≡ fault_of_open why) × CountsAs why (D.failures disk) (D.failures now) ×
-        SyncsAndEndsIn why D.serves (reads_of layout half) disk now ×
-        (D.honest now → OpensAs (D.state now).bytes (Err why)) ×
-        (D.honest disk → (b : List ℕ) → IsImage (D.state now) b → IsImage (D.state disk) b)) }
+    ensures refused { IfErr result (IsNotOpenedToPrint D.Disk disk) }
 {
     match open_store(alloc, disk) {
         Ok(keeper) => Ok(keeper),

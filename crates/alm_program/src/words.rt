@@ -1,6 +1,6 @@
 //! The job in the program's words.
 
-ghost use Rattle.std.specs.Prelude.{◌≡◌, ◌≤◌, ◌<◌, Ok, Err, IfOk, MatchResult, map, option_map, ok_or};
+ghost use Rattle.std.specs.Prelude.{◌≡◌, ◌≤◌, ◌<◌, Ok, Err, IfOk, MatchResult, map, option_copied, ok_or};
 ghost use Rattle.std.specs.String.{string_bytes};
 ghost use Rattle.clap.specs.Words.{App, first_of, found_of, rows_of, with_rule, with_subcommand};
 ghost use Rattle.alm_program.specs.Commands.{IsCommand, IsWord, desk, export, format, named, optional, serve, show, upgrade, commands, wanted};
@@ -125,7 +125,7 @@ fn word<'a>(matches: &ArgMatches<'a>, name: &str) -> Result<&'a str, WordsFault>
 
 /// The version of a new device: the one that is named, or else `usual`.
 fn version_of(name: Option<&str>, usual: Version) -> Result<Version, WordsFault>
-    ensures { result ≡ ok_or (version_in usual (option_map (λ text. text.now) name.entry)) Usage }
+    ensures { result ≡ ok_or (version_in usual (option_copied name.entry)) Usage }
 {
     match name {
         None => Ok(usual),
@@ -175,10 +175,10 @@ fn endpoints_of<'a>(
     folder: Option<&'a str>,
 ) -> Result<Endpoints<'a>, WordsFault>
     ensures read { MatchResult result
-        (λ endpoints. endpoints_by (option_map (λ text. text.now) port.entry)
-        (option_map (λ text. text.now) folder.entry) ≡ Some (endpoints_of endpoints))
-        (λ fault. (fault ≡ Usage) × (endpoints_by (option_map (λ text. text.now) port.entry)
-        (option_map (λ text. text.now) folder.entry) ≡ None)) }
+        (λ endpoints. endpoints_by (option_copied port.entry) (option_copied folder.entry) ≡
+        Some (endpoints_of endpoints))
+        (λ fault. (fault ≡ Usage) ×
+        (endpoints_by (option_copied port.entry) (option_copied folder.entry) ≡ None)) }
     ensures ports { IfOk result AreEndpoints }
 {
     match (port, folder) {
@@ -190,7 +190,7 @@ fn endpoints_of<'a>(
 
 /// The number of connections, or of the seconds between two scrubs.
 fn conns_of(digits: Option<&str>) -> Result<u32, WordsFault>
-    ensures { result ≡ ok_or (conns_in (option_map (λ text. text.now) digits.entry)) Usage }
+    ensures { result ≡ ok_or (conns_in (option_copied digits.entry)) Usage }
 {
     let Some(digits) = digits else {
         return Ok(0);
@@ -201,7 +201,7 @@ fn conns_of(digits: Option<&str>) -> Result<u32, WordsFault>
 
 /// How many seconds a device call may take while clients are served.
 fn patience_of(digits: Option<&str>) -> Result<Option<u32>, WordsFault>
-    ensures { result ≡ ok_or (patience_in (option_map (λ text. text.now) digits.entry)) Usage }
+    ensures { result ≡ ok_or (patience_in (option_copied digits.entry)) Usage }
 {
     let Some(digits) = digits else {
         return Ok(None);

@@ -1,7 +1,7 @@
-use Rattle.std.proofs.Common.{◌≡◌, List, [], ◌∷◌, Contains, Option, Some, OnOk, IfSome, subst, ◌∙◌}
+use Rattle.std.proofs.Common.{◌≡◌, List, [], ◌∷◌, Contains, Option, Some, OnOk, subst, ◌∙◌}
 use Rattle.alm_model.specs.Plant.{Condensed}
 use Rattle.alm_desk.specs.Answers.{DeskState, standing_of}
-use Rattle.alm_desk.specs.DeskLines.{IsDesk}
+use Rattle.alm_desk.specs.DeskLines.{AnswersInput}
 use Rattle.alm_keeper.specs.AsStore.{StandsFor}
 use Rattle.alm_stack.specs.Stacks.{kept_of, stands_of}
 use Rattle.alm_program.specs.DeskRuns.{AreJudgedAtDesk, JudgedAtDesk}
@@ -23,8 +23,8 @@ returns g c =
         judged = subst (λ (p : Option Condensed). ∥ ((js : List JudgedAtDesk) × AreJudgedAtDesk (Some base) (base ∷ []) js p e.0.kept) ∥₁) plant
             (subst (λ (q : List Condensed). ∥ ((js : List JudgedAtDesk) × AreJudgedAtDesk (Some base) (base ∷ []) js (stands_of c.into_stack-back.result) q) ∥₁) kept k.judged);
         printed = subst
-            (λ (s : DeskState). OnOk c.in_ok-done.field-0.done (IfSome (g.I.Read.remaining c.args.reader.now.inner)
-            (λ bytes. IsDesk s bytes (g.W.Write.contents c.args.writer.now.inner) e.0 (g.W.Write.contents c.run_backend_between.new.writer.inner))))
+            (λ (s : DeskState). OnOk c.in_ok-done.field-0.done
+            (AnswersInput s (g.I.Read.remaining c.args.reader.now.inner) (g.W.Write.contents c.args.writer.now.inner) e.0 (g.W.Write.contents c.run_backend_between.new.writer.inner)))
             (λ i. standing_of (stands i) (holds i) (sound i) 0 []) e.3;
         holds = λ honest image is. subst (λ (q : List Condensed). ∥ ((p : Condensed) × Contains q p × StandsFor image p) ∥₁) kept (k.holds honest image is);
       },
