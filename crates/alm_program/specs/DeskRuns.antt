@@ -3,7 +3,6 @@ use Rattle.std.specs.Prelude.{◌≡◌, ◌↔◌, ◌⊎◌, ℕ, List, [], �
 use Rattle.alm_types.specs.declared.request.Request.{Request}
 use Rattle.alm_model.specs.Plant.{Condensed}
 use Rattle.alm_disk.specs.Device.{IsImage}
-use Rattle.alm_disk.specs.Failures.{HasFailed}
 use Rattle.alm_disk.specs.declared.disk.Disk
 use Rattle.alm_desk.specs.Answers.{DeskState, standing_of}
 use Rattle.alm_desk.specs.Backends.{IsJudged, kept_by}
@@ -13,10 +12,8 @@ use Rattle.alm_desk.specs.declared.stopped.Stopped.{Stopped}
 use Rattle.alm_file.specs.declared.file_fault.FileFault.{FileFault}
 use Rattle.alm_file.specs.Replay.{BeginsAs}
 use Rattle.alm_keeper.specs.AsStore.{StandsFor}
-use Rattle.alm_store.specs.Calls.{IsRefusedBy, OpensBy}
-use Rattle.alm_store.specs.Opening.{HasCause}
+use Rattle.alm_store.specs.Opening.{IsGivenBack, IsOpenedAs}
 use Rattle.alm_store.specs.declared.open_fault.OpenFault.{OpenFault}
-use Rattle.alm_store.specs.declared.open_fault.OpenFault.TheVariants as opening
 use Rattle.alm_program.specs.declared.fault.Fault.{Fault}
 use Rattle.alm_program.specs.declared.fault.Fault.TheVariants.{OutOfMemory}
 use Rattle.alm_program.specs.Faults.{fault_of_file, fault_of_open}
@@ -40,16 +37,12 @@ pub record RunsDesk {D : Type 0} (d : Disk.Ghosts D) (base : Condensed) (honest_
   pub printed : OnOk done (AnswersInput (standing_of (Some base) (base ∷ []) 0 0 []) input old later new)
   pub holds : d.honest back → (image : List ℕ) → IsImage (d.state back) image → ∥ ((plant : Condensed) × Contains later.kept plant × StandsFor image plant) ∥₁
 
--- the device was opened by an opening's calls, and reads as one of its images. If what it gave was that, this is the plant that the image
--- holds. Then a desk was run over it
+-- the device was opened with this plant, and then a desk was run over it
 pub record IsDeskOver {D : Type 0} (d : Disk.Ghosts D) (device back : D) (input old new : Option (List ℕ)) (done : Result Unit Fault) : Type 0 where
   pub opened : D
   pub base : Condensed
   pub later : DeskState
-  pub by : OpensBy d.serves device opened
-  pub honest : d.honest opened → d.honest device
-  pub image : d.honest device → IsImage (d.state device) (d.state opened).bytes
-  pub stands : d.honest opened → StandsFor (d.state opened).bytes base
+  pub is : IsOpenedAs d StandsFor base device opened
   pub runs : RunsDesk d base (d.honest opened) back input old new done later
 
 -- a file held the bytes `start`. A device that began with them had a desk run over it, and became `back`: its record is longer by each call
@@ -67,9 +60,7 @@ pub record DeskIsNotOpened {D : Type 0} (d : Disk.Ghosts D) (device : D) (fault 
   pub why : OpenFault
   pub now : D
   pub named : fault ≡ fault_of_open why
-  pub by : IsRefusedBy why d.serves device now
-  pub failed : why ≡ opening.Disk → HasFailed (d.failures device) (d.failures now)
-  pub cause : d.honest now → HasCause StandsFor (d.state device) why (d.failures device) (d.failures now)
+  pub is : IsGivenBack d StandsFor why device now
 
 -- no desk is run over the device: there is no memory, or it isn't opened
 abbrev pub IsNotRun : {D : Type 0} (d : Disk.Ghosts D) (device : D) (fault : Fault) → Type 0

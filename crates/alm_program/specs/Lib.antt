@@ -9,4 +9,3 @@ pub mod ServeOrders
 pub mod OwnedEndpoints
 pub mod Ends
 pub mod DeskRuns
-pub mod ToPrint

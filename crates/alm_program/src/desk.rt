@@ -1,8 +1,6 @@
 //! The desk over standard input and output.
 
-ghost use Rattle.std.specs.Prelude.{◌≡◌, ◌⊎◌, ◌↔◌, ◌∷◌, [], ℕ, List, Some, IfErr, IfOk, IfSome, OnOk, is_none};
-ghost use Rattle.alm_disk.specs.Device.{IsImage};
-ghost use Rattle.alm_disk.specs.Failures.{HasFailed};
+ghost use Rattle.std.specs.Prelude.{◌≡◌, ◌⊎◌, ◌↔◌, ◌∷◌, [], ℕ, List, Some, IfErr, IfOk, OnOk, is_none};
 ghost use Rattle.alm_file.specs.Replay.{BeginsAs};
 ghost use Rattle.alm_keeper.specs.AsStore.{StandsFor};
 ghost use Rattle.alm_desk.specs.Answers.{DeskState};
@@ -10,11 +8,9 @@ ghost use Rattle.alm_desk.specs.DeskLines.{AnswersInput};
 ghost use Rattle.alm_desk.specs.Standings.{first_standing};
 ghost use Rattle.alm_desk.specs.Turns.{IsUnread, IsUnwritten};
 ghost use Rattle.alm_stack.specs.Stacks.{kept_of, stands_of, store_of};
-ghost use Rattle.alm_store.specs.Calls.{IsRefusedBy, OpensBy};
-ghost use Rattle.alm_store.specs.Opening.{HasCause};
-ghost use Rattle.alm_program.specs.DeskRuns.{IsDeskFrom, IsDeskOver, IsNotRun, IsNotRunFrom, RunsDesk};
+ghost use Rattle.alm_store.specs.Opening.{IsOpenedAs};
+ghost use Rattle.alm_program.specs.DeskRuns.{DeskIsNotOpened, IsDeskFrom, IsDeskOver, IsNotRun, IsNotRunFrom, RunsDesk};
 ghost use Rattle.alm_program.specs.Ends.{DeskEnds};
-ghost use Rattle.alm_program.specs.Faults.{fault_of_open};
 
 use crate::desk_end::DeskEnd;
 use crate::desk_id::DeskId;
@@ -24,7 +20,6 @@ use crate::io_faults::{file_fault, io_fault};
 use alm_desk::{Backend, CountedReader, CountedWriter, LocalDesk, desk_run, worked_table};
 use alm_disk::Disk;
 use alm_file::{FileDisk, Start};
-use alm_keeper::OpenFault;
 use alm_model::Alarms;
 use alm_plant::Plant;
 use alm_stack::Stack;
@@ -76,25 +71,13 @@ pub fn run_desk<R: Input + Print + AllocGlobal>(rt: &R) -> Result<(), Fault> {
 
 /// Opens the stack over a device.
 fn open_stack<D: Disk + Drop>(alloc: Global, disk: D) -> Result<Stack<D>, Fault>
-    // Its device is what this one is after an opening's calls. It reads as one of the images before, and that encodes the plant, if
-    // what it gave was that.
-    ensures made { IfOk result (λ s. OpensBy D.serves disk (store_of s).disk) }
+    ensures opened { IfOk result
+        (λ s. IsOpenedAs D.Disk StandsFor (store_of s).stored.plant disk (store_of s).disk) }
     ensures fresh { IfOk result
         (λ s. (s.failures ≡ 0) × (stands_of s ≡ Some (store_of s).stored.plant) ×
         (kept_of s ≡ (store_of s).stored.plant ∷ [])) }
-    ensures honest { IfOk result (λ s. D.honest (store_of s).disk → D.honest disk) }
-    ensures image { D.honest disk →
-        IfOk result (λ s. IsImage (D.state disk) (D.state (store_of s).disk).bytes) }
-    ensures encodes { IfOk result
-        (λ s. D.honest (store_of s).disk →
-        StandsFor (D.state (store_of s).disk).bytes (store_of s).stored.plant) }
     // The fault is that of a device that this one is after an opening's calls.
-    ensures refused { IfErr result
-        (λ fault. (why : OpenFault) × (now : D) × (fault ≡ fault_of_open why) ×
-        IsRefusedBy why D.serves disk now ×
-        (why ≡ OpenFault.Disk → HasFailed (D.failures disk) (D.failures now)) ×
-        (D.honest now →
-        HasCause StandsFor (D.state disk) why (D.failures disk) (D.failures now))) }
+    ensures refused { IfErr result (DeskIsNotOpened D.Disk disk) }
 {
     match Stack::open(alloc, disk) {
         Ok(stack) => Ok(stack),

@@ -1,11 +1,13 @@
 //! What is shown of a device.
 
-ghost use Rattle.std.specs.Prelude.{IfOk, IfErr};
+ghost use Rattle.std.specs.Prelude.{◌≡◌, IfOk, IfErr};
+ghost use Rattle.alm_keeper.specs.Calls.{reads_of};
 ghost use Rattle.alm_keeper.specs.Keeper.{StandsWithRoom};
+ghost use Rattle.alm_keeper.specs.Opening.{IsOpenedBy, IsUnopened};
 ghost use Rattle.alm_lines.specs.Written.{Prints};
 ghost use Rattle.alm_export.specs.Showing.{plant_text};
 ghost use Rattle.alm_program.specs.Ends.{PrintEnds};
-ghost use Rattle.alm_program.specs.ToPrint.{HasNoNewImage, IsNotOpenedToPrint};
+ghost use Rattle.alm_program.specs.Faults.{fault_of_open};
 
 use crate::fault::Fault;
 use crate::io_faults::{file_fault, io_fault};
@@ -13,7 +15,7 @@ use alm_desk::CountedWriter;
 use alm_disk::Disk;
 use alm_export::show_plant;
 use alm_file::{FileDisk, Start};
-use alm_keeper::{Keeper, open_store};
+use alm_keeper::{Keeper, OpenFault, open_store};
 use alm_types::Answer;
 use std::alloc::Global;
 use std::fs::{File, Files};
@@ -24,10 +26,12 @@ fn open_to_print<D: Disk + Drop>(alloc: Global, disk: D) -> Result<Keeper<D>, Fa
     ensures stands { IfOk result
         (λ keeper. D.honest keeper.disk →
         StandsWithRoom keeper.stored (D.state keeper.disk).bytes) }
-    ensures unwritten { D.honest disk →
-        IfOk result (λ keeper. HasNoNewImage (D.state disk) (D.state keeper.disk)) }
+    ensures opened { IfOk result
+        (λ keeper. IsOpenedBy D.Disk (reads_of keeper.layout keeper.half) disk keeper.disk) }
     // The fault is that of a device that this one is after an opening's calls.
-    ensures refused { IfErr result (IsNotOpenedToPrint D.Disk disk) }
+    ensures refused { IfErr result
+        (λ fault. (why : OpenFault) × (now : D) × (fault ≡ fault_of_open why) ×
+        IsUnopened D.Disk why disk now) }
 {
     match open_store(alloc, disk) {
         Ok(keeper) => Ok(keeper),

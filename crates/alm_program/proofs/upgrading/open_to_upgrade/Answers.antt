@@ -9,7 +9,7 @@ returns-in-Ok g c = λ start begins.
     let looked = c.read_layout.new.disk in
     let keeper = c.in-Ok.keeper in
     let layout = c.in_ok-layout.ensures in
-    let opened = c.in-Ok.ensures in
+    let opened = c.in-Ok.ensures.opened in
     let was : g.D.Disk.honest keeper.disk → g.D.Disk.honest c.args.disk = λ honest. layout.honest (opened.honest honest) in
     let long : g.D.Disk.honest keeper.disk → length start ≡ g.D.Disk.size c.args.disk = λ honest. ap length (sym begins.settled.reads) ∙ g.met.D.Disk.whole c.args.disk (was honest) in
     let settled = layout.keeps start begins.settled in
@@ -22,5 +22,5 @@ returns-in-Ok g c = λ start begins.
       are_reads = (tt, (tt, (tt, (tt, (tt, tt)))));
       calls = (looked, layout.serves, opened.made);
       laid = λ honest. layout.layout start (opened.honest honest) begins.settled (long honest);
-      stands = λ honest. subst (λ (b : List ℕ). StandsFor b keeper.stored.plant) (same honest) (keeper.stored.epoch, (opened.stands honest).0);
+      stands = λ honest. subst (λ (b : List ℕ). StandsFor b keeper.stored.plant) (same honest) (keeper.stored.epoch, (c.in-Ok.ensures.stands honest).0);
     }
