@@ -13,7 +13,7 @@ GREP = re.compile(r"`(git grep [^`]*)`(?: shows some (\d+) files)?")
 AMONG = re.compile(r"Of (\d+) crates that is ([^.]*)\.")
 GROUP = re.compile(r"(\d+)(?: to (\d+))? for (alm_\w+(?:(?:, | and )alm_\w+)*)")
 NAMED = re.compile(r"`((?:src|specs|proofs)/[\w/]+(?:\.rt|\.antt|/))`")
-WORDS = {3: "three", 6: "six", 7: "seven", 8: "eight", 9: "nine", 10: "ten"}
+WORDS = {1: "one", 6: "six", 7: "seven", 8: "eight", 9: "nine", 10: "ten"}
 
 
 def text_of(path):
