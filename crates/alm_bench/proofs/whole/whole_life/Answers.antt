@@ -17,7 +17,7 @@ returns-in-Ok-life-clause-run g c = λ end.
     let new = c.in-Ok.ensures.formatted.stands honest in
     let only : StandOnly state plant = λ image is. subst (λ (bytes : List ℕ). StandsFor bytes plant) (sym (settled_image state state.bytes image settled is)) (1, new.stands) in
     let run = c.in-Ok-life.ensures.run plant only end in
-    (c.in-Ok.disk, c.in-Ok.ensures.formatted, only, run.0, run.1, run.2)
+    (c.in-Ok.disk, c.in-Ok.ensures.formatted, only, run)
 
 pub returns-in-Ok-life-clause-told : goal.returns-in-Ok-life-clause-told
 returns-in-Ok-life-clause-told g c = λ end.
@@ -31,7 +31,7 @@ returns-in-Ok-life-clause-told g c = λ end.
 pub returns-in-Err-life-clause-refused : goal.returns-in-Err-life-clause-refused
 returns-in-Err-life-clause-refused g c =
     let back = c.in-Err-life.ensures.refused in
-    inr (refl, c.in-Ok.disk, c.in-Ok.ensures.formatted, back.0, back.1, back.2)
+    inr (refl, c.in-Ok.disk, c.in-Ok.ensures.formatted, back)
 
 pub returns-in-Err-clause-refused : goal.returns-in-Err-clause-refused
 returns-in-Err-clause-refused g c = inl c.in-Err.ensures.refused

@@ -1,5 +1,5 @@
 use Rattle.alm_keeper.specs.AsStore.{StandsFor, IsLastEpoch}
-use Rattle.std.proofs.Common.{rules, refl, ◌≡◌, ◌+◌, ◌∙◌, ◌++◌, ◌∷◌, [], List, take, length, ap, sym, subst, arith, length-append}
+use Rattle.std.proofs.Common.{rules, refl, ◌≡◌, ◌+◌, ◌∙◌, ◌++◌, ◌∷◌, [], ℕ, List, take, length, ap, sym, subst, arith, length-append}
 use Rattle.std.proofs.lemmas.List.{take_more, take_all}
 use Rattle.alm_pipeline.specs.declared.step.Step.{Step}
 use Rattle.alm_pipeline.specs.declared.step_event.StepEvent.{StepEvent}
@@ -80,7 +80,7 @@ returns-clause-run g c = λ honest w m.
     let new = c.loop-step.self in
     let all : take c.loop-step.step-index c.args.steps.now ≡ c.args.steps.now = take_all c.loop-step.step-index c.args.steps.now (omega (arith, c.loop-step-test.false)) in
     let run : IsRun StandsFor IsLastEpoch w (bench_sight old) c.args.steps.now trace (bench_sight new) = subst (λ (l : List Step). IsRun StandsFor IsLastEpoch w (bench_sight old) l trace (bench_sight new)) all (c.loop-step.invariant.run honest w m) in
-    let paces = λ pace e.
+    let paces : (pace : ℕ) → IsPaced pace w old → (last : ℕ) × PacesAll most_more w pace c.args.steps.now trace last × IsPaced last (after_steps w c.args.steps.now trace) new = λ pace e.
     let paced = c.loop-step.invariant.paces honest w pace m e in (
       paced.0,
       subst (λ (l : List Step). PacesAll most_more w pace l trace paced.0) all paced.1,
