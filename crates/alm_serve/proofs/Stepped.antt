@@ -1,14 +1,13 @@
 -- A port in a step of its service.
-use Rattle.std.proofs.Common.{◌≡◌, ◌≢◌, ℕ, ◌≤◌, ◌+◌, ◌⊎◌, List, None, length, inl, inr, refl, sym, subst, arith}
+use Rattle.std.proofs.Common.{◌≡◌, ◌≢◌, ℕ, ◌≤◌, List, None, length, inl, inr, refl, sym, subst, arith}
 use Rattle.std.proofs.lemmas.List.{length-map}
 use Rattle.alm_types.specs.declared.action.Action.{Action}
 use Rattle.alm_model.specs.Plant.{Condensed}
 use Rattle.alm_rings.specs.declared.console.Console.{Console}
 use Rattle.alm_rings.specs.declared.told.Told.{Ghosts}
 use Rattle.alm_rings.specs.Ends.{sent_of, received_of}
-use Rattle.alm_session.specs.Draining.{IsDrained}
-use Rattle.alm_types.specs.Sizes.{most_out}
-use Rattle.alm_session.specs.Sides.{IsQuiet, Turns, heard_by, heard_of, least_of, slot_state}
+use Rattle.alm_session.specs.Draining.{DropsReceipts}
+use Rattle.alm_session.specs.Sides.{Turns, heard_by, heard_of, least_of, slot_state}
 use Rattle.alm_session.specs.Turns.{IsTurn, Looks, SlotState}
 use Rattle.alm_session.specs.declared.session.Session.{Session}
 use Rattle.alm_session.specs.declared.turn.Turn.{Turn}
@@ -58,10 +57,9 @@ module _ {S T : Type 0} {g : Ghosts T} (looks : Looks) (base : Condensed) (sessi
       (turn : Turn) × ((now : StreamWire S) × TurnServes turn now result next
       × IsTurn looks base (least_of turn) (slot_state session knew (wire_input wire) wire.traffic.written.bytes (sent_of before) (heard_by before)) (slot_state later knows (wire_input now) now.traffic.written.bytes (sent_of after) (heard_by after)) × More wire turn now)
 
-  -- the receipts of one that has ended, and more of it
-  abbrev Dropped : Type 0 → Served (StreamWire S) → Connection (StreamWire S) → Type 0
-  Dropped More result next =
-      Settles result next after × (later ≡ session) × (sent_of after ≡ sent_of before) × IsDrained base knew (heard_by before) knows (heard_by after) × More
+  -- the receipts of one that has ended
+  abbrev Dropped : Served (StreamWire S) → Connection (StreamWire S) → Type 0
+  Dropped result next = Settles result next after × (later ≡ session) × DropsReceipts base knew knows before after
 
   -- the port keeps the bytes of a wire that was closed, else what it kept before
   abbrev Keeps : Served (StreamWire S) → Traffic → Traffic → Type 0
@@ -81,24 +79,24 @@ module _ {S T : Type 0} {g : Ghosts T} (looks : Looks) (base : Condensed) (sessi
       subst (λ (n : Connection (StreamWire S)). Attends looks base (Open tt) (stage n) (old_side (Open wire) kept) (new_side n left)) (sym serves.1)
       (subst (λ (t : Traffic). Attends looks base (Open tt) Ended (old_side (Open wire) kept) (new_side Ended t)) (sym (subst (λ (r : Served (StreamWire S)). Keeps r kept left) serves.0 keeps)) (went, λ awaits. cc awaits))
 
-  ended : {More : Type 0} (next : Connection (StreamWire S)) (result : Served (StreamWire S)) (kept left : Traffic) → Dropped More result next → Keeps result kept left
+  ended : (next : Connection (StreamWire S)) (result : Served (StreamWire S)) (kept left : Traffic) → Dropped result next → Keeps result kept left
       → Attends looks base Ended (stage next) (old_side Ended kept) (new_side next left)
-  ended next result kept left (inl (is, now, all), same, sent, drained, more) keeps =
+  ended next result kept left (inl (is, now, all), same, (sent, drained, more)) keeps =
       let stays : left ≡ kept = subst (λ (r : Served (StreamWire S)). Keeps r kept left) is keeps in
       subst (λ (n : Connection (StreamWire S)). Attends looks base Ended (stage n) (old_side Ended kept) (new_side n left)) (sym now)
       (subst (λ (t : Traffic). Attends looks base Ended Awaited (old_side Ended kept) (new_side Awaited t)) (sym stays)
       (record { input = refl; written = refl; sent = sent }, drained, λ opens. cc opens, λ awaits. subst (λ (n : ℕ). length (sent_of after) ≤ n) (sym (length-map (received_of after) heard_of)) all))
-  ended next result kept left (inr (is, now, some), same, sent, drained, more) keeps =
+  ended next result kept left (inr (is, now, some), same, (sent, drained, more)) keeps =
       let stays : left ≡ kept = subst (λ (r : Served (StreamWire S)). Keeps r kept left) is keeps in
       subst (λ (n : Connection (StreamWire S)). Attends looks base Ended (stage n) (old_side Ended kept) (new_side n left)) (sym now)
       (subst (λ (t : Traffic). Attends looks base Ended Ended (old_side Ended kept) (new_side Ended t)) (sym stays)
       (record { input = refl; written = refl; sent = sent }, drained, λ opens. cc opens, λ awaits. absurd (cc awaits)))
 
-  pub stepped : {More : StreamWire S → Turn → StreamWire S → Type 0} {Rest : Type 0} (was next : Connection (StreamWire S)) (result : Served (StreamWire S)) (kept left : Traffic) → was ≢ Awaited → ((wire : StreamWire S) → was ≡ Open wire → Turned More wire result next) → (was ≡ Ended → Dropped Rest result next)
+  pub stepped : {More : StreamWire S → Turn → StreamWire S → Type 0} (was next : Connection (StreamWire S)) (result : Served (StreamWire S)) (kept left : Traffic) → was ≢ Awaited → ((wire : StreamWire S) → was ≡ Open wire → Turned More wire result next) → (was ≡ Ended → Dropped result next)
       → Keeps result kept left → Attends looks base (stage was) (stage next) (old_side was kept) (new_side next left)
-  stepped {More} {Rest} Awaited next result kept left other turns drops keeps = absurd (other refl)
-  stepped {More} {Rest} (Open wire) next result kept left other turns drops keeps = opened More wire next result kept left (turns wire refl) keeps
-  stepped {More} {Rest} Ended next result kept left other turns drops keeps = ended next result kept left (drops refl) keeps
+  stepped {More} Awaited next result kept left other turns drops keeps = absurd (other refl)
+  stepped {More} (Open wire) next result kept left other turns drops keeps = opened More wire next result kept left (turns wire refl) keeps
+  stepped {More} Ended next result kept left other turns drops keeps = ended next result kept left (drops refl) keeps
 
   -- what a turn is that did nothing
   abbrev Counted : StreamWire S → Turn → StreamWire S → Type 0
@@ -115,16 +113,16 @@ module _ {S T : Type 0} {g : Ghosts T} (looks : Looks) (base : Condensed) (sessi
   served_open wire next result kept left n m (turn.Fault, (now, serves, went, more)) =
       subst (λ (c : Connection (StreamWire S)). ServesClients looks base (Open (wire_counts wire)) (by_wire wire_counts c) n m later before after (old_side (Open wire) kept) (new_side c left)) (sym serves.1) tt
 
-  served_ended : (next : Connection (StreamWire S)) (result : Served (StreamWire S)) (kept left : Traffic) (n m : ℕ) → Dropped (IsQuiet after ⊎ (length (received_of before) + most_out ≤ length (received_of after))) result next
+  served_ended : (next : Connection (StreamWire S)) (result : Served (StreamWire S)) (kept left : Traffic) (n m : ℕ) → Dropped result next
       → ServesClients looks base Ended (by_wire wire_counts next) n m later before after (old_side Ended kept) (new_side next left)
-  served_ended next result kept left n m (inl (is, now, all), same, sent, drained, more) =
+  served_ended next result kept left n m (inl (is, now, all), same, (sent, drained, more)) =
       subst (λ (c : Connection (StreamWire S)). ServesClients looks base Ended (by_wire wire_counts c) n m later before after (old_side Ended kept) (new_side c left)) (sym now) tt
-  served_ended next result kept left n m (inr (is, now, some), same, sent, drained, more) =
+  served_ended next result kept left n m (inr (is, now, some), same, (sent, drained, more)) =
       subst (λ (c : Connection (StreamWire S)). ServesClients looks base Ended (by_wire wire_counts c) n m later before after (old_side Ended kept) (new_side c left)) (sym now) more
 
   -- a step of a service serves
   pub served_in : (was next : Connection (StreamWire S)) (result : Served (StreamWire S)) (kept left : Traffic) (n m : ℕ) → was ≢ Awaited → ((wire : StreamWire S) → was ≡ Open wire → Turned Counted wire result next)
-      → (was ≡ Ended → Dropped (IsQuiet after ⊎ (length (received_of before) + most_out ≤ length (received_of after))) result next) → ServesClients looks base (by_wire wire_counts was) (by_wire wire_counts next) n m later before after (old_side was kept) (new_side next left)
+      → (was ≡ Ended → Dropped result next) → ServesClients looks base (by_wire wire_counts was) (by_wire wire_counts next) n m later before after (old_side was kept) (new_side next left)
   served_in Awaited next result kept left n m other turns drops = absurd (other refl)
   served_in (Open wire) next result kept left n m other turns drops = served_open wire next result kept left n m (turns wire refl)
   served_in Ended next result kept left n m other turns drops = served_ended next result kept left n m (drops refl)

@@ -1,5 +1,5 @@
 -- What the port of a slot did in a run.
-use Rattle.std.specs.Prelude.{◌≡◌, ℕ, List, [], ◌∷◌, None, Some, slice_get}
+use Rattle.std.specs.Prelude.{◌≡◌, ℕ, List, [], ◌∷◌, None, Some, map, slice_get}
 use Rattle.alm_types.specs.declared.action.Action.{Action}
 use Rattle.alm_types.specs.declared.want.Want.{Want}
 use Rattle.alm_model.specs.Plant.{Condensed}
@@ -9,12 +9,13 @@ use Rattle.alm_rings.specs.Ends.{sent_of}
 use Rattle.alm_session.specs.Sides.{slot_state, heard_by}
 use Rattle.alm_session.specs.Turns.{Looks, SlotState}
 use Rattle.alm_session.specs.Unanswered.{Heard}
+use Rattle.alm_threads.specs.Sources.{SourceState}
 use Rattle.alm_serve.specs.declared.connection.Connection.{Connection}
 use Rattle.alm_serve.specs.declared.connection.Connection.TheVariants.{Awaited, Open}
 use Rattle.alm_serve.specs.declared.slot_port.SlotPort.{SlotPort}
 use Rattle.alm_serve.specs.declared.stream_wire.StreamWire.{StreamWire}
 use Rattle.alm_serve.specs.declared.traffic.Traffic.{Traffic}
-use Rattle.alm_serve.specs.Service.{Attends, ServesClients, by_wire, stage}
+use Rattle.alm_serve.specs.Service.{Attends, ServesClients, as_heard, by_wire, stage}
 use Rattle.alm_serve.specs.StreamWires.{wire_counts}
 use Rattle.alm_serve.specs.Talks.{AreTalks, Talk}
 
@@ -69,10 +70,19 @@ module _ {R T : Type 0} where
   abbrev pub AreUnused : List (SlotPort R T) → Type 0
   AreUnused ports = (k : ℕ) (port : SlotPort R T) → slice_get ports k ≡ Some port → IsUnused port
 
+  -- a port's side, with all that its console sent and received
+  abbrev pub port_side : {g : Ghosts T} → SlotPort R T → (known : List Action) → Console T g → SlotState
+  port_side port known console = side_of port known (sent_of console) (heard_by console)
+
+  -- a port did in a turn at its console what `Attends` says
+  abbrev pub PortAttends : {g : Ghosts T} → Looks → Condensed → (was now : SlotPort R T) → (knew knows : List Action) → (before after : Console T g) → Type 0
+  PortAttends looks base was now knew knows before after =
+      Attends looks base (stage was.service.connection) (stage now.service.connection) (port_side was knew before) (port_side now knows after)
+
   -- a port did for its clients what `ServesClients` says
-  abbrev pub PortServes : {g : Ghosts T} → Looks → Condensed → (was now : SlotPort R T) → (before after : Console T g) → (a b : SlotState) → Type 0
-  PortServes looks base was now before after a b =
-      ServesClients looks base (by_wire wire_counts was.service.connection) (by_wire wire_counts now.service.connection) was.listener.nobody now.listener.nobody now.service.session before after a b
+  abbrev pub PortServes : {g : Ghosts T} → Looks → Condensed → (was now : SlotPort R T) → (knew knows : List Action) → (before after : Console T g) → Type 0
+  PortServes looks base was now knew knows before after =
+      ServesClients looks base (by_wire wire_counts was.service.connection) (by_wire wire_counts now.service.connection) was.listener.nobody now.listener.nobody now.service.session before after (port_side was knew before) (port_side now knows after)
 
   module _ {g : Ghosts T} (base : Condensed) where
     -- a port has become another. All that was sent and received at its slot's console was so in its turns
@@ -99,3 +109,10 @@ module _ {R T : Type 0} where
     AllTalked [] [] = Unit {0}
     AllTalked (now ∷ later) (console ∷ consoles) = Talked now console × AllTalked later consoles
     AllTalked later consoles = ⊥
+
+module _ {R T L : Type 0} (base : L → Condensed) (knows : L → List Action) (looks : L → L → Looks) where
+  -- a turn of a port by its source's states, for looks of one plant: the port did what `Attends` says
+  abbrev pub SourceAttends : (a b : SourceState (SlotPort R T) L) → Type 0
+  SourceAttends a b =
+      (base b.look ≡ base a.look) × Attends (looks a.look b.look) (base a.look) (stage a.source.service.connection) (stage b.source.service.connection)
+      (side_of a.source (knows a.look) a.sent (map as_heard a.received)) (side_of b.source (knows b.look) b.sent (map as_heard b.received))

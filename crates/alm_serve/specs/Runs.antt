@@ -1,11 +1,12 @@
 -- What a server's run has done.
-use Rattle.std.specs.Prelude.{◌≡◌, ◌≢◌, ◌⊎◌, ℕ, false, List, length, Option, Some, Result, Ok, Err, slice_get}
+use Rattle.std.specs.Prelude.{◌≡◌, ◌≢◌, ◌⊎◌, ◌<◌, ◌^◌, ℕ, false, List, length, Option, Some, Result, Ok, Err, slice_get}
 use Rattle.alm_disk.specs.Device.{DeviceState, IsImage}
 use Rattle.alm_disk.specs.Failures.{HasFailed}
 use Rattle.alm_disk.specs.declared.disk.Disk
 use Rattle.alm_model.specs.Plant.{Condensed}
 use Rattle.alm_moments.specs.declared.recorded_moment.RecordedMoment.{RecordedMoment}
 use Rattle.alm_rings.specs.declared.slot_report.SlotReport.{SlotReport}
+use Rattle.alm_rings.specs.Placed.{AreApart}
 use Rattle.alm_store.specs.Calls.{IsRefusedBy, OpensBy}
 use Rattle.alm_store.specs.Opening.{HasCause}
 use Rattle.alm_store.specs.declared.open_fault.OpenFault.{OpenFault}
@@ -24,6 +25,10 @@ use Rattle.alm_types.specs.Sizes.{slot_count}
 pub record AreAllSlots (slots : List ℕ) : Type 0 where
   pub count : length slots ≡ slot_count
   pub order : (k s : ℕ) → slice_get slots k ≡ Some s → s ≡ k
+
+-- slots that a run may serve: at least one, and no two are the same
+abbrev pub AreRunSlots : List ℕ → Type 0
+AreRunSlots slots = (0 < length slots) × (length slots < 2 ^ 32) × AreApart (λ s. s) slots
 
 -- all that was sent was taken and answered
 abbrev pub IsWhole : List (Option SlotReport) → Type 0

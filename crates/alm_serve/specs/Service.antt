@@ -1,14 +1,14 @@
 -- What a slot's service does in a step.
-use Rattle.std.specs.Prelude.{◌≡◌, ◌≢◌, ◌⊎◌, ◌≤◌, ◌<◌, ◌+◌, ℕ, List, [], Option, None, Some, length}
+use Rattle.std.specs.Prelude.{◌≡◌, ◌≢◌, ◌⊎◌, ◌≤◌, ◌<◌, ℕ, List, [], Option, None, Some, length}
 use Rattle.alm_types.specs.Counts.{one_more}
-use Rattle.alm_types.specs.Sizes.{most_out}
+use Rattle.alm_types.specs.declared.action.Action.{Action}
 use Rattle.alm_model.specs.Plant.{Condensed}
 use Rattle.alm_rings.specs.declared.told.Told.{Ghosts}
 use Rattle.alm_rings.specs.declared.console.Console.{Console}
 use Rattle.alm_rings.specs.Ends.{sent_of, received_of}
-use Rattle.alm_session.specs.Draining.{IsDrained}
+use Rattle.alm_session.specs.Draining.{HasReceivedAll, IsDrained}
 use Rattle.alm_session.specs.Intakes.{Untaken}
-use Rattle.alm_session.specs.Sides.{IsQuiet, Turns}
+use Rattle.alm_session.specs.Sides.{Turns, least_of, side_over}
 use Rattle.alm_session.specs.Turns.{IsTurn, Looks, SlotState}
 use Rattle.alm_session.specs.Unanswered.{Heard}
 use Rattle.alm_session.specs.Wires.{Counts}
@@ -16,12 +16,14 @@ use Rattle.alm_session.specs.declared.session.Session.{Session}
 use Rattle.alm_session.specs.declared.unanswered.Unanswered.{Unanswered}
 use Rattle.alm_session.specs.declared.turn.Turn.{Turn}
 use Rattle.alm_session.specs.declared.turn.Turn.TheVariants as turn
+use Rattle.alm_session.specs.declared.wire.Wire
 use Rattle.alm_threads.specs.Sources.{Reported}
 use Rattle.alm_serve.specs.declared.call_watch.CallWatch.{CallWatch}
 use Rattle.alm_serve.specs.declared.connection.Connection.{Connection}
 use Rattle.alm_serve.specs.declared.connection.Connection.TheVariants.{Awaited, Open, Ended}
 use Rattle.alm_serve.specs.declared.served.Served.{Served}
 use Rattle.alm_serve.specs.declared.served.Served.TheVariants as served
+use Rattle.alm_serve.specs.declared.slot_service.SlotService.{SlotService}
 
 -- no byte has come, no action waits, and no byte is to be written
 abbrev pub IsFresh : Untaken → List Unanswered → List ℕ → Type 0
@@ -61,6 +63,15 @@ module _ {W : Type 0} where
         ((result ≡ served.Over) × (connection ≡ Awaited) × (length (sent_of console) ≤ length (received_of console)))
         ⊎ ((result ≡ served.Idle) × (connection ≡ Ended) × (length (received_of console) < length (sent_of console)))
 
+module _ {T : Type 0} {g : Ghosts T} where
+  -- if a connection is open, a step is a turn of its session over its wire, and this is its result and the connection after it
+  abbrev pub StepsByTurn : {W : Type 0} → Wire.Ghosts W → Looks → Condensed → (was now : SlotService W) → (knew knows : List Action) → (before after : Console T g) → Served W → Type 0
+  StepsByTurn {W} w looks base was now knew knows before after result =
+      (wire : W) → was.connection ≡ Open wire
+      → (turn : Turn) × ((later : W) × TurnServes turn later result now.connection
+      × IsTurn looks base (least_of turn) (side_over w was.session knew wire before) (side_over w now.session knows later after)
+      × Turns turn now.session before after (w.counts wire) (w.counts later) (w.input later).coming)
+
 -- nothing was read, written or sent
 pub record MovesNothing (a b : SlotState) : Type 0 where
   pub input : b.input ≡ a.input
@@ -93,5 +104,5 @@ module _ {T : Type 0} {g : Ghosts T} (looks : Looks) (base : Condensed) where
   abbrev pub ServesClients : (was now : Connection Counts) → (nobody later : ℕ) → Session → (before after : Console T g) → (a b : SlotState) → Type 0
   ServesClients Awaited Awaited nobody later session before after a b = later ≡ one_more nobody
   ServesClients (Open old) (Open new) nobody later session before after a b = IsTurn looks base 1 a b ⊎ Turns turn.Idle session before after old new None
-  ServesClients Ended Ended nobody later session before after a b = IsQuiet after ⊎ (length (received_of before) + most_out ≤ length (received_of after))
+  ServesClients Ended Ended nobody later session before after a b = HasReceivedAll before after
   ServesClients was now nobody later session before after a b = Unit {0}

@@ -1,10 +1,10 @@
 //! Serves the slots of a device.
 
-ghost use Rattle.std.specs.Prelude.{◌≡◌, ◌≤◌, ◌<◌, ◌^◌, decimal, length, map, Option, IfOk, IfErr};
+ghost use Rattle.std.specs.Prelude.{◌≡◌, ◌≤◌, decimal, length, map, Option, IfOk, IfErr};
 ghost use Rattle.alm_lines.specs.Written.{Prints};
 ghost use Rattle.alm_rings.specs.Placed.{AreApart};
 ghost use Rattle.alm_keeper.specs.AsStore.{IsLastEpoch, StandsFor};
-ghost use Rattle.alm_serve.specs.Runs.{AreAllSlots, HasServed, IsLeftOpened, RunsBy, RunsWhole, ServeEnds};
+ghost use Rattle.alm_serve.specs.Runs.{AreAllSlots, AreRunSlots, HasServed, IsLeftOpened, RunsBy, RunsWhole, ServeEnds};
 ghost use Rattle.alm_serve.specs.Serving.{serving_line, stopped_line, ServeWrites};
 ghost use Rattle.alm_serve.specs.Stores.{EndWrites, IsResultOf, IsRunOfPorts, ServesStore, WritesOf};
 ghost use Rattle.alm_threads.specs.Slots.{AreNewConsoles};
@@ -154,8 +154,7 @@ fn run_behind<'r, J: RunId + Send + Sync, K: Store, R: Threads + Wait + Clock + 
     requires named { IsNamedAfter J.RunId K.Store K.Device.Disk store }
     requires idle { (K.state store).phase ≡ Phase.Idle }
     requires limit { (K.state store).stored.panel.count ≤ most_actions }
-    requires some { (0 < length slots.items) × (length slots.items < 2 ^ 32) }
-    requires apart { AreApart (λ s. s) slots.items }
+    requires slots { AreRunSlots slots.items }
     requires ports { map (λ port. port.slot) ports.ports.items ≡ slots.items }
     ensures run { IfOk result
         (IsRunOfPorts K.Store K.Device.Disk store ports.entry.ports.items) }
@@ -192,8 +191,7 @@ pub fn serve_store<
     requires named { IsNamedAfter J.RunId K.Store K.Device.Disk store }
     requires idle { (K.state store).phase ≡ Phase.Idle }
     requires limit { (K.state store).stored.panel.count ≤ most_actions }
-    requires some { (0 < length slots.items) × (length slots.items < 2 ^ 32) }
-    requires apart { AreApart (λ s. s) slots.items }
+    requires slots { AreRunSlots slots.items }
     requires ports { map (λ port. port.slot) ports.ports.items ≡ slots.items }
     ensures serves { ServesStore K.Store K.Device.Disk store ports.entry.ports.items result }
     ensures writes { WritesOf K.Store K.Device.Disk (L.name listen.now) (W.contents writer.old)

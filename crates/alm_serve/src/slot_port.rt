@@ -81,12 +81,11 @@ pub struct SlotPort<'r, R, T> {
 impl<'r, R: Clock, T: Told + Drop> SlotPort<'r, R, T> {
     ghost use Rattle.std.specs.Prelude.{◌≡◌, ◌⊎◌, false, IfOk};
     ghost use Rattle.alm_types.specs.Counts.{one_more};
-    ghost use Rattle.alm_rings.specs.Ends.{SameConsole, sent_of};
-    ghost use Rattle.alm_session.specs.Sides.{heard_by};
+    ghost use Rattle.alm_rings.specs.Ends.{SameConsole};
     ghost use Rattle.alm_session.specs.Turns.{between};
     ghost use Rattle.alm_serve.specs.declared.connection.Connection.TheVariants as connection;
-    ghost use Rattle.alm_serve.specs.Ports.{PortServes, IsUnused, side_of, traffic_of};
-    ghost use Rattle.alm_serve.specs.Service.{Attends, IsFresh, IsLate, by_wire, stage, without_wire};
+    ghost use Rattle.alm_serve.specs.Ports.{IsUnused, PortAttends, PortServes, traffic_of};
+    ghost use Rattle.alm_serve.specs.Service.{IsFresh, IsLate, by_wire, stage, without_wire};
     ghost use Rattle.alm_serve.specs.StreamWires.{wire_counts};
     ghost use Rattle.alm_threads.specs.declared.go.Go.TheVariants as go;
 
@@ -176,16 +175,13 @@ impl<'r, R: Clock, T: Told + Drop> SlotPort<'r, R, T> {
         ensures ends { SameConsole console.old console.new }
         ensures slot { self.new.slot ≡ self.old.slot }
         ensures base { L.Look.base look.new ≡ L.Look.base look.old }
-        ensures attends { Attends (between L.Look.looked L.Recall.recalled look.old look.new)
-            (L.Look.base look.old)
-            (stage self.old.service.connection) (stage self.new.service.connection)
-            (side_of self.old (L.Look.knows look.old) (sent_of console.old) (heard_by console.old))
-            (side_of self.new (L.Look.knows look.new) (sent_of console.new) (heard_by console.new)) }
+        ensures attends { PortAttends (between L.Look.looked L.Recall.recalled look.old look.new)
+            (L.Look.base look.old) self.old self.new (L.Look.knows look.old)
+            (L.Look.knows look.new) console.old console.new }
         ensures serves { IsLate self.old.watch self.new.watch ⊎
             PortServes (between L.Look.looked L.Recall.recalled look.old look.new)
-            (L.Look.base look.old) self.old self.new console.old console.new
-            (side_of self.old (L.Look.knows look.old) (sent_of console.old) (heard_by console.old))
-            (side_of self.new (L.Look.knows look.new) (sent_of console.new) (heard_by console.new)) }
+            (L.Look.base look.old) self.old self.new (L.Look.knows look.old)
+            (L.Look.knows look.new) console.old console.new }
     {
         if is_stuck(&mut self.watch) {
             return self.turn_away();
@@ -238,16 +234,13 @@ impl<'r, R: Clock, T: Told + Drop> SlotPort<'r, R, T> {
         ensures ends { SameConsole console.old console.new }
         ensures slot { self.new.slot ≡ self.old.slot }
         ensures base { L.Look.base look.new ≡ L.Look.base look.old }
-        ensures attends { Attends (between L.Look.looked L.Recall.recalled look.old look.new)
-            (L.Look.base look.old)
-            (stage self.old.service.connection) (stage self.new.service.connection)
-            (side_of self.old (L.Look.knows look.old) (sent_of console.old) (heard_by console.old))
-            (side_of self.new (L.Look.knows look.new) (sent_of console.new) (heard_by console.new)) }
+        ensures attends { PortAttends (between L.Look.looked L.Recall.recalled look.old look.new)
+            (L.Look.base look.old) self.old self.new (L.Look.knows look.old)
+            (L.Look.knows look.new) console.old console.new }
         ensures serves { (result ≡ go.End) ⊎ IsLate self.old.watch self.new.watch ⊎
             PortServes (between L.Look.looked L.Recall.recalled look.old look.new)
-            (L.Look.base look.old) self.old self.new console.old console.new
-            (side_of self.old (L.Look.knows look.old) (sent_of console.old) (heard_by console.old))
-            (side_of self.new (L.Look.knows look.new) (sent_of console.new) (heard_by console.new)) }
+            (L.Look.base look.old) self.old self.new (L.Look.knows look.old)
+            (L.Look.knows look.new) console.old console.new }
     {
         if self.count.are_over() {
             return Go::End;
@@ -262,38 +255,29 @@ impl<'r, R: Clock, T: Told + Drop> SlotPort<'r, R, T> {
 }
 
 impl<R: Clock, T: Told + Drop, L: FreeLook<Told = T> + Recall> Source<T, L> for SlotPort<'_, R, T> {
-    ghost use Rattle.std.specs.Prelude.{◌≡◌, ◌⊎◌, Some, map};
-    ghost use Rattle.alm_rings.specs.Ends.{SameConsole, received_of, sent_of};
-    ghost use Rattle.alm_session.specs.Sides.{heard_by};
+    ghost use Rattle.std.specs.Prelude.{◌≡◌, ◌⊎◌, Some};
+    ghost use Rattle.alm_rings.specs.Ends.{SameConsole};
     ghost use Rattle.alm_session.specs.Turns.{between};
-    ghost use Rattle.alm_threads.specs.Sources.{reported_of};
+    ghost use Rattle.alm_threads.specs.Sources.{source_state};
     ghost use Rattle.alm_threads.specs.declared.go.Go.TheVariants as go;
-    ghost use Rattle.alm_serve.specs.Ports.{PortServes, side_of};
-    ghost use Rattle.alm_serve.specs.Service.{Attends, IsLate, as_heard, stage};
+    ghost use Rattle.alm_serve.specs.Ports.{PortServes, SourceAttends};
+    ghost use Rattle.alm_serve.specs.Service.{IsLate};
 
     ghost slot = { λ port. Some port.slot };
 
-    ghost did = { λ a b. (L.Look.base b.look ≡ L.Look.base a.look) ×
-        Attends (between L.Look.looked L.Recall.recalled a.look b.look) (L.Look.base a.look)
-        (stage a.source.service.connection) (stage b.source.service.connection)
-        (side_of a.source (L.Look.knows a.look) a.sent (map as_heard a.received))
-        (side_of b.source (L.Look.knows b.look) b.sent (map as_heard b.received)) };
+    ghost did = { SourceAttends L.Look.base L.Look.knows (between L.Look.looked L.Recall.recalled) };
 
     fn turn(&mut self, console: &mut Console<T>, look: &mut L) -> Go
         ensures ends { SameConsole console.old console.new }
         ensures slot { self.new.slot ≡ self.old.slot }
-        ensures did { (L.Look.base look.new ≡ L.Look.base look.old) ×
-            Attends (between L.Look.looked L.Recall.recalled look.old look.new)
-            (L.Look.base look.old)
-            (stage self.old.service.connection) (stage self.new.service.connection)
-            (side_of self.old (L.Look.knows look.old) (sent_of console.old) (map as_heard (map reported_of (received_of console.old))))
-            (side_of self.new (L.Look.knows look.new) (sent_of console.new) (map as_heard (map reported_of (received_of console.new)))) }
+        ensures did { SourceAttends L.Look.base L.Look.knows (between L.Look.looked L.Recall.recalled)
+            (source_state self.old look.old console.old)
+            (source_state self.new look.new console.new) }
         // Unless it ends, or a device call takes too long, it has served whoever is there.
         ensures serves { (result ≡ go.End) ⊎ IsLate self.old.watch self.new.watch ⊎
             PortServes (between L.Look.looked L.Recall.recalled look.old look.new)
-            (L.Look.base look.old) self.old self.new console.old console.new
-            (side_of self.old (L.Look.knows look.old) (sent_of console.old) (heard_by console.old))
-            (side_of self.new (L.Look.knows look.new) (sent_of console.new) (heard_by console.new)) }
+            (L.Look.base look.old) self.old self.new (L.Look.knows look.old)
+            (L.Look.knows look.new) console.old console.new }
     {
         self.attend(console, look)
     }

@@ -47,16 +47,13 @@ impl<W> SlotService<W> {
 }
 
 impl<W: Wire + Drop> SlotService<W> {
-    ghost use Rattle.std.specs.Prelude.{◌≡◌, ◌≤◌, ◌+◌, ◌⊎◌, length};
-    ghost use Rattle.alm_rings.specs.Ends.{SameConsole, sent_of, received_of};
-    ghost use Rattle.alm_session.specs.Draining.{IsDrained};
-    ghost use Rattle.alm_session.specs.Sides.{slot_state, heard_by, least_of, IsQuiet, Turns};
-    ghost use Rattle.alm_session.specs.Turns.{IsTurn, between};
-    ghost use Rattle.alm_session.specs.declared.turn.Turn.{Turn};
+    ghost use Rattle.std.specs.Prelude.{◌≡◌};
+    ghost use Rattle.alm_rings.specs.Ends.{SameConsole};
+    ghost use Rattle.alm_session.specs.Draining.{DropsReceipts};
+    ghost use Rattle.alm_session.specs.Turns.{between};
     ghost use Rattle.alm_serve.specs.declared.connection.Connection.TheVariants as connection;
     ghost use Rattle.alm_serve.specs.declared.served.Served.TheVariants as served;
-    ghost use Rattle.alm_serve.specs.Service.{IsFresh, TurnServes, Settles, wire_of};
-    ghost use Rattle.alm_types.specs.Sizes.{most_out};
+    ghost use Rattle.alm_serve.specs.Service.{IsFresh, Settles, StepsByTurn, wire_of};
 
     /// A connection begins over this wire: no byte of it has come, and none is to be written.
     pub fn begin(&mut self, wire: W)
@@ -95,24 +92,15 @@ impl<W: Wire + Drop> SlotService<W> {
             (result ≡ served.Idle) × (self.new ≡ self.old) × (console.new ≡ console.old) ×
             (look.new ≡ look.old) }
         // A step of an open connection is a turn of its session over its wire.
-        ensures open { (wire : W) → self.old.connection ≡ connection.Open wire →
-            (turn : Turn) × ((now : W) × TurnServes turn now result self.new.connection ×
-            IsTurn (between L.Look.looked L.Recall.recalled look.old look.new)
-            (L.Look.base look.old) (least_of turn)
-            (slot_state self.old.session (L.Look.knows look.old) (W.input wire) (W.written wire)
-            (sent_of console.old) (heard_by console.old))
-            (slot_state self.new.session (L.Look.knows look.new) (W.input now) (W.written now)
-            (sent_of console.new) (heard_by console.new)) ×
-            Turns turn self.new.session console.old console.new (W.counts wire) (W.counts now)
-            (W.input now).coming) }
+        ensures open { StepsByTurn W.Wire (between L.Look.looked L.Recall.recalled look.old look.new)
+            (L.Look.base look.old) self.old self.new (L.Look.knows look.old)
+            (L.Look.knows look.new) console.old console.new result }
         // What an ended connection leaves is received and dropped, and nothing is sent.
         ensures ended { self.old.connection ≡ connection.Ended →
             Settles result self.new.connection console.new ×
-            (self.new.session ≡ self.old.session) × (sent_of console.new ≡ sent_of console.old) ×
-            IsDrained (L.Look.base look.old) (L.Look.knows look.old) (heard_by console.old)
-            (L.Look.knows look.new) (heard_by console.new) ×
-            (IsQuiet console.new ⊎
-            (length (received_of console.old) + most_out ≤ length (received_of console.new))) }
+            (self.new.session ≡ self.old.session) ×
+            DropsReceipts (L.Look.base look.old) (L.Look.knows look.old) (L.Look.knows look.new)
+            console.old console.new }
     {
         match &mut self.connection {
             Connection::Awaited => Served::Idle,
