@@ -1,16 +1,13 @@
 -- What a server's run has done.
-use Rattle.std.specs.Prelude.{◌≡◌, ◌≢◌, ◌⊎◌, ◌<◌, ◌^◌, ℕ, false, List, length, Option, Some, Result, Ok, Err, slice_get}
-use Rattle.alm_disk.specs.Device.{DeviceState, IsImage}
+use Rattle.std.specs.Prelude.{◌≡◌, ◌≢◌, ◌⊎◌, ◌<◌, ◌^◌, ℕ, List, length, Option, Some, Result, Ok, Err, slice_get}
+use Rattle.alm_disk.specs.Device.{DeviceState}
 use Rattle.alm_disk.specs.Failures.{HasFailed}
 use Rattle.alm_disk.specs.declared.disk.Disk
 use Rattle.alm_model.specs.Plant.{Condensed}
 use Rattle.alm_moments.specs.declared.recorded_moment.RecordedMoment.{RecordedMoment}
 use Rattle.alm_rings.specs.declared.slot_report.SlotReport.{SlotReport}
 use Rattle.alm_rings.specs.Placed.{AreApart}
-use Rattle.alm_store.specs.Calls.{IsRefusedBy, OpensBy}
-use Rattle.alm_store.specs.Opening.{HasCause}
-use Rattle.alm_store.specs.declared.open_fault.OpenFault.{OpenFault}
-use Rattle.alm_store.specs.declared.open_fault.OpenFault.TheVariants as fault
+use Rattle.alm_store.specs.Opening.{IsGivenBack, IsOpenedAs}
 use Rattle.alm_threads.specs.Answered.{AllAnswered}
 use Rattle.alm_threads.specs.Histories.{LeavesOneOf}
 use Rattle.alm_threads.specs.Moments.{Endures}
@@ -51,16 +48,11 @@ module _ {D : Type 0} (d : Disk.Ghosts D) (recovers : List ℕ → Condensed →
   abbrev pub RunsWhole : Condensed → (from to : D) → (count : ℕ) → Type 0
   RunsWhole base from to count = ServesRun base from to IsWhole count
 
-  -- the device was opened by an opening's calls. It reads as one of its images, which encodes the plant that the run begins with, if
-  -- what it gave was that
+  -- the device was opened, with the plant that the run begins with
   pub record IsOpened (device : D) : Type 0 where
     pub opened : D
     pub base : Condensed
-    pub by : OpensBy d.serves device opened
-    pub honest : d.honest opened → d.honest device
-    pub image : d.honest device → IsImage (d.state device) (d.state opened).bytes
-    pub stands : d.honest opened → recovers (d.state opened).bytes base
-    pub settled : d.honest device → (place : ℕ) → (d.state opened).pending place ≡ false
+    pub is : IsOpenedAs d recovers base device opened
 
   -- it was opened, and left so
   abbrev pub IsLeftOpened : (device back : D) → Type 0
@@ -69,12 +61,6 @@ module _ {D : Type 0} (d : Disk.Ghosts D) (recovers : List ℕ → Condensed →
   -- it was opened, and a whole run led to the other. At its end `count` actions are stored
   abbrev pub HasServed : (device back : D) → (count : ℕ) → Type 0
   HasServed device back count = (o : IsOpened device) × RunsWhole o.base o.opened back count
-
-  -- it wasn't opened, for its cause
-  pub record IsNotOpened (device back : D) (why : OpenFault) : Type 0 where
-    pub by : IsRefusedBy why d.serves device back
-    pub failed : why ≡ fault.Disk → HasFailed (d.failures device) (d.failures back)
-    pub cause : d.honest back → HasCause recovers (d.state device) why (d.failures device) (d.failures back)
 
 module _ {D : Type 0} (d : Disk.Ghosts D) (recovers : List ℕ → Condensed → Type 0) (spent : DeviceState → Type 0) where
   -- it stopped for this cause. If a step of the store failed, the device failed, or it is at the last epoch. If none failed,
@@ -94,5 +80,5 @@ module _ {D : Type 0} (d : Disk.Ghosts D) (recovers : List ℕ → Condensed →
 
   -- what became of a server's device, by its result
   abbrev pub ServeEnds : (device back : D) → Option StopCause → Result ℕ ServeFault → Type 0
-  ServeEnds device back why (Err (Open fault)) = IsNotOpened d recovers device back fault
+  ServeEnds device back why (Err (Open fault)) = IsGivenBack d recovers fault device back
   ServeEnds device back why result = (o : IsOpened d recovers device) × RunsBy o.base o.opened back why result

@@ -10,7 +10,7 @@ returns-in-Ok-clause-ends g c =
     let k = c.in-Ok.keeper in
     let open' = c.in-Ok.ensures in
     let end = c.serve_over-end.result in
-    let o : IsOpened d StandsFor c.args.disk = record { opened = k.disk; base = k.stored.plant; by = open'.made; honest = open'.honest; image = open'.image; stands = open'.encodes; settled = open'.settled } in
+    let o : IsOpened d StandsFor c.args.disk = record { opened = k.disk; base = k.stored.plant; is = open'.opened } in
     ends_of d StandsFor IsLastEpoch c.args.disk c.into_device.result o end.cause end.served
     (subst (λ back. RunsBy d StandsFor IsLastEpoch k.stored.plant k.disk back end.cause end.served) (sym c.into_device.ensures) c.serve_over-end.ensures.ends)
 
@@ -20,5 +20,5 @@ returns-in-Ok-clause-writes g c =
     let k = c.in-Ok.keeper in
     let open' = c.in-Ok.ensures in
     let end = c.serve_over-end.result in
-    let o : IsOpened d StandsFor c.args.disk = record { opened = k.disk; base = k.stored.plant; by = open'.made; honest = open'.honest; image = open'.image; stands = open'.encodes; settled = open'.settled } in
+    let o : IsOpened d StandsFor c.args.disk = record { opened = k.disk; base = k.stored.plant; is = open'.opened } in
     writes_map _ _ _ _ _ _ _ end.served (λ same. (o, c.into_device.ensures ∙ same)) (λ count whole. (o, subst (λ back. RunsWhole d StandsFor k.stored.plant k.disk back count) (sym c.into_device.ensures) whole)) c.serve_over-end.ensures.writes
