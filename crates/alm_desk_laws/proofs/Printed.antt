@@ -26,7 +26,7 @@ use Rattle.alm_desk.specs.Backends.{judged_by}
 use Rattle.alm_desk.specs.declared.hindrance.Hindrance.TheVariants.{Nothing}
 use Rattle.alm_laws.specs.Listed.{HasJustThose, IsStaleAlarm, IsChatteringAlarm}
 use Rattle.alm_laws.specs.Refused.{reasons}
-use Rattle.alm_laws.specs.Refused.{judged_by as by_reasons}
+use Rattle.alm_laws.specs.Refused.{by_first_reason}
 use Rattle.alm_laws.specs.Shown.{IsShownAsItIs, flags_shown}
 use Rattle.alm_laws.specs.Taken.{IsAcceptable}
 use Rattle.alm_laws.proofs.Shown.{one-shown, state-told}
@@ -95,4 +95,4 @@ module _ (t : Listing) (s : DeskState) (lines : List AnsweredLine) (q : Condense
   pub no-printed : (slot id : ℕ) (want : Want) (first : Refusal) (others : List Refusal) → reasons q.panel (request slot want) ≡ first ∷ others → reply_to_action s lines slot id want ≡ no_text id first
   no-printed slot id want first others e =
       ap (λ o. reply_on o (after_lines s lines).recent (record { slot = slot; line = record { id = id; ask = Act want } }) Nothing) h.stands
-      ∙ ap (λ o. judged_reply id (judged_by q.panel.count o)) (first-reason q (request slot want) rules ∙ ap (by_reasons (action_of want)) e)
+      ∙ ap (λ o. judged_reply id (judged_by q.panel.count o)) (first-reason q (request slot want) rules ∙ ap (by_first_reason (action_of want)) e)

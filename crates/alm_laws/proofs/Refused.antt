@@ -30,7 +30,7 @@ use Rattle.alm_model.specs.Rules.{KeepsRules}
 use Rattle.alm_laws.specs.Alarm.{is_unacknowledged, is_latched}
 use Rattle.alm_laws.specs.Left.{condition_left}
 use Rattle.alm_laws.specs.Plant.{asker_of}
-use Rattle.alm_laws.specs.Refused.{where_so, alarm_reasons, reasons_at, own_reasons, same_role, stamp_reasons, reasons, judged_by, all_refusals}
+use Rattle.alm_laws.specs.Refused.{where_so, alarm_reasons, reasons_at, own_reasons, same_role, stamp_reasons, reasons, by_first_reason, all_refusals}
 use Rattle.alm_laws.specs.Table.{agree}
 use Rattle.alm_laws.proofs.AlarmLaws.{acknowledge-taken, resets-taken}
 use Rattle.alm_laws.proofs.Taken.{taken-by, value-taken, length-taken, fits-at}
@@ -138,7 +138,7 @@ may-so role.Console (SetSetpoint i v) = refl
 may-so role.Feed (SetSetpoint i v) = refl
 may-so role.Clock (SetSetpoint i v) = refl
 
-judged-so : (action : Action) (xs : List Refusal) → judged_by action xs ≡ answer action (first_of_all xs)
+judged-so : (action : Action) (xs : List Refusal) → by_first_reason action xs ≡ answer action (first_of_all xs)
 judged-so action [] = refl
 judged-so action (x ∷ xs) = refl
 
@@ -150,7 +150,7 @@ stamp-so : (p : Panel) (w : Want) → first_of_all (stamp_reasons p w) ≡ stamp
 stamp-so p (Do a) = refl
 stamp-so p (AckSeen i stamp) = first-so (not (stamp_of p i.0 == stamp)) (stamp_of p i.0 == stamp) AnnunciatedAgain (twice (stamp_of p i.0 == stamp))
 
-pub first-reason : (q : Condensed) (r : Request) → KeepsRules q → accept q.panel r ≡ judged_by (wanted_action r) (reasons q.panel r)
+pub first-reason : (q : Condensed) (r : Request) → KeepsRules q → accept q.panel r ≡ by_first_reason (wanted_action r) (reasons q.panel r)
 first-reason q r h =
     let role_so = first-so (not (same_role (role_of r.slot) (asker_of (wanted_action r)))) (may_ask (role_of r.slot) (wanted_action r)) WrongRole (may-so (role_of r.slot) (wanted_action r) ∙ twice (same_role (role_of r.slot) (asker_of (wanted_action r)))) in
     let number_so = first-so (not (nat_lt q.panel.count most_actions)) (nat_lt q.panel.count most_actions) Exhausted (twice (nat_lt q.panel.count most_actions)) in

@@ -67,9 +67,9 @@ reasons p r =
     where_so (not (same_role (role_of r.slot) (asker_of (wanted_action r)))) WrongRole ++ own_reasons p (wanted_action r) ++ where_so (not (nat_lt p.count most_actions)) Exhausted ++ stamp_reasons p r.want
 
 -- a request is accepted without a reason against it, and else refused for the first
-abbrev pub judged_by : Action → List Refusal → Result Action Refusal
-judged_by action [] = Ok action
-judged_by action (first ∷ others) = Err first
+abbrev pub by_first_reason : Action → List Refusal → Result Action Refusal
+by_first_reason action [] = Ok action
+by_first_reason action (first ∷ others) = Err first
 
 -- the refusals in the order of their numbers, from 1 on
 abbrev pub all_refusals : List Refusal

@@ -19,7 +19,7 @@ ghost use Rattle.alm_model.specs.Plant.{Condensed};
 ghost use Rattle.alm_model.specs.Accept.{accept};
 ghost use Rattle.alm_model.specs.Rules.{KeepsRules};
 ghost use Rattle.alm_laws.specs.Alarm.{TakesAction};
-ghost use Rattle.alm_laws.specs.Refused.{all_refusals, judged_by, reasons};
+ghost use Rattle.alm_laws.specs.Refused.{all_refusals, by_first_reason, reasons};
 ghost use Rattle.alm_laws.specs.Left.{IsLeft};
 ghost use Rattle.alm_laws.specs.Table.{can_happen, is_that, meets_the_laws};
 ghost use Rattle.alm_laws.specs.Taken.{is_taken, IsAcceptable};
@@ -51,7 +51,7 @@ pub fn taken_just_then()
 /// A request is refused for the first of the reasons against it, and accepted if there is none.
 pub fn a_refusal_names_the_first_reason()
     ensures { (q : Condensed) (r : Request) → KeepsRules q →
-        accept q.panel r ≡ judged_by (wanted_action r) (reasons q.panel r) }
+        accept q.panel r ≡ by_first_reason (wanted_action r) (reasons q.panel r) }
 {}
 
 /// Each refusal has a number of its own, from 1 to 22.
