@@ -5,9 +5,10 @@ ghost use Rattle.std.specs.Prelude.{◌<◌};
 use crate::traces::trace;
 use crate::world::World;
 use alm_bench::{Step, StepEvent};
+use alm_common_tests::{moment_of, reading_of, same, slot_of};
 use alm_desk::worked_table;
 use alm_model::{Alarms, PlainPlant};
-use alm_types::{Action, AlarmId, Moment, Query, Reading, Slot, Want};
+use alm_types::{Action, AlarmId, Query, Slot, Want};
 use std::alloc::Global;
 use std::test::Fail;
 
@@ -40,21 +41,18 @@ fn slot(drawn: u64) -> Result<Slot, Fail> {
         2 => 16,
         _ => 17,
     };
-    Ok(Slot::new(number).ok_or("slot")?)
+    slot_of(number)
 }
 
 /// A drawn action; the clock moves to a moment.
 fn action(drawn: u64, now: u64) -> Result<Action, Fail> {
     let id = AlarmId(below(drawn, 8, 5));
     Ok(match below(drawn, 12, 16) {
-        0 | 1 | 2 => Action::Clock(Moment::new(now).ok_or("moment")?),
+        0 | 1 | 2 => Action::Clock(moment_of(now)?),
         3 | 4 | 5 => Action::Ack(id),
         6 => Action::Shelve(id, below(drawn, 44, 9)),
         7 => Action::Oos(id, below(drawn, 40, 2) == 0),
-        _ => Action::Value(
-            id,
-            Reading::new(100 * below(drawn, 50, 10) as i64).ok_or("reading")?,
-        ),
+        _ => Action::Value(id, reading_of(100 * below(drawn, 50, 10) as i64)?),
     })
 }
 
@@ -68,7 +66,7 @@ fn sender(drawn: u64, action: &Action) -> Result<Slot, Fail> {
         Action::Value(_, _) => 16,
         _ => 7,
     };
-    Ok(Slot::new(number).ok_or("slot")?)
+    slot_of(number)
 }
 
 fn query(drawn: u64) -> Query {
@@ -210,12 +208,12 @@ fn runs_differ_at(alloc: Global, (runs, count): (u32, u32)) -> Result<Option<(u3
 
 #[test]
 fn long_runs_of_drawn_steps_answer_as_the_world_does(rt: HostRuntime) -> Result<(), Fail> {
-    assert_eq!(rt; runs_differ_at(rt.alloc(), LONG)?, None);
+    same(runs_differ_at(rt.alloc(), LONG)?, None)?;
     Ok(())
 }
 
 #[test]
 fn short_runs_of_drawn_steps_answer_as_the_world_does(rt: HostRuntime) -> Result<(), Fail> {
-    assert_eq!(rt; runs_differ_at(rt.alloc(), SHORT)?, None);
+    same(runs_differ_at(rt.alloc(), SHORT)?, None)?;
     Ok(())
 }

@@ -2,7 +2,8 @@
 
 use crate::traces::{alike, trace_on};
 use alm_bench::{Step, StepEvent};
-use alm_types::{Action, Moment, Slot, Table, Want};
+use alm_common_tests::{moment_of, same_at, slot_of};
+use alm_types::{Action, Slot, Table, Want};
 use std::alloc::Global;
 use std::test::Fail;
 
@@ -13,7 +14,7 @@ const DEVICE: (usize, usize) = (391_541, 1000);
 
 /// One action of the clock from its request to its receipt, with `calls` device calls.
 fn tick(steps: &mut Vec<Step>, clock: Slot, turn: u64, calls: u32) -> Result<(), Fail> {
-    let now = Action::Clock(Moment::new(turn).ok_or("moment")?);
+    let now = Action::Clock(moment_of(turn)?);
     steps.push(Step::Send(clock, Want::Do(now)))?;
     steps.push(Step::Take(clock))?;
     steps.push(Step::Seal)?;
@@ -49,7 +50,7 @@ fn steps(alloc: Global, clock: Slot, calls: u32) -> Result<Vec<Step>, Fail> {
 
 /// What is opened after it, if the pending bytes stay as they read.
 fn opened_after(alloc: Global, table: &Table, calls: u32) -> Result<Option<StepEvent>, Fail> {
-    let steps = steps(alloc, Slot::new(17).ok_or("slot")?, calls)?;
+    let steps = steps(alloc, slot_of(17)?, calls)?;
     Ok(trace_on(alloc, table, DEVICE, &steps)?.last().copied())
 }
 
@@ -63,11 +64,11 @@ fn a_crash_after_each_call_of_commits_between_pieces(rt: HostRuntime) -> Result<
         59, 59, 59, 59, 60, 60, 60, 60, 60, 61, 61, 61, 61, 61, 61, 61, 61, 62, 62,
     ];
     for (calls, count) in counts.into_iter().enumerate() {
-        assert_eq!(rt;
+        same_at(
+            calls,
             opened_after(alloc, &table, calls as u32)?,
             Some(StepEvent::Opened(count)),
-            "after {calls}"
-        );
+        )?;
     }
     Ok(())
 }

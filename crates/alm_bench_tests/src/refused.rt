@@ -2,10 +2,11 @@
 //! refused at most, so what was refused succeeds the second time.
 
 use alm_bench::{Bench, Step, StepEvent};
+use alm_common_tests::{moment_of, same, slot_of};
 use alm_desk::worked_table;
 use alm_disk::MemDisk;
 use alm_keeper::{OpenFault, format};
-use alm_types::{Action, Moment, Slot, Want};
+use alm_types::{Action, Want};
 use std::alloc::{AllocError, Global};
 use std::test::Fail;
 
@@ -42,15 +43,12 @@ fn first_on_new(alloc: Global, steps: &[Step]) -> Result<Option<StepEvent>, Open
 
 #[test]
 fn a_run_without_memory_makes_no_step(rt: HostRuntime) -> Result<(), Fail> {
-    let clock = Slot::new(17).ok_or("slot")?;
-    let steps = [Step::Send(
-        clock,
-        Want::Do(Action::Clock(Moment::new(1000).ok_or("moment")?)),
-    )];
+    let clock = slot_of(17)?;
+    let steps = [Step::Send(clock, Want::Do(Action::Clock(moment_of(1000)?)))];
     let event = match first_on_new(rt.alloc(), &steps) {
         Err(OpenFault::OutOfMemory) => first_on_new(rt.alloc(), &steps),
         event => event,
     };
-    assert_eq!(rt; event, Ok(Some(StepEvent::Sent(1))));
+    same(event, Ok(Some(StepEvent::Sent(1))))?;
     Ok(())
 }

@@ -5,8 +5,9 @@ use crate::drawn::{below, differs_at, random};
 use crate::traces::{alike, trace_on};
 use crate::world::World;
 use alm_bench::{Step, StepEvent};
+use alm_common_tests::{holds_at, reading_of, same_at, slot_of};
 use alm_model::{Alarms, PlainPlant};
-use alm_types::{Action, AlarmId, Reading, Slot, Table, Want};
+use alm_types::{Action, AlarmId, Slot, Table, Want};
 use std::alloc::Global;
 use std::test::Fail;
 
@@ -46,12 +47,12 @@ struct Course {
 
 /// The console whose turn it is.
 fn console(number: u32) -> Result<Slot, Fail> {
-    Ok(Slot::new((number % 4) as u8).ok_or("slot")?)
+    slot_of((number % 4) as u8)
 }
 
 /// A setpoint that its alarm never had.
 fn setpoint(number: u32) -> Result<Action, Fail> {
-    let setpoint = Reading::new(1000 + number as i64).ok_or("reading")?;
+    let setpoint = reading_of(1000 + number as i64)?;
     Ok(Action::SetSetpoint(AlarmId(number % ALARMS), setpoint))
 }
 
@@ -198,11 +199,7 @@ fn calls_alone(steps: &[Step], trace: &[StepEvent]) -> Option<u32> {
 #[test]
 fn a_crash_after_each_call(rt: HostRuntime) -> Result<(), Fail> {
     for calls in 0..MOST_CALLS {
-        assert_eq!(rt;
-            run_differs_at(rt.alloc(), SEED, calls)?,
-            None,
-            "after {calls}"
-        );
+        same_at(calls, run_differs_at(rt.alloc(), SEED, calls)?, None)?;
     }
     Ok(())
 }
@@ -212,11 +209,7 @@ fn drawn_runs_answer_as_the_world_does(rt: HostRuntime) -> Result<(), Fail> {
     let mut seed = SEED;
     for _run in 0..RUNS {
         seed = random(seed);
-        assert_eq!(rt;
-            run_differs_at(rt.alloc(), seed, MOST_CALLS)?,
-            None,
-            "seed {seed}"
-        );
+        same_at(seed, run_differs_at(rt.alloc(), seed, MOST_CALLS)?, None)?;
     }
     Ok(())
 }
@@ -227,11 +220,8 @@ fn many_commits_stand_behind_pieces(rt: HostRuntime) -> Result<(), Fail> {
     let steps = steps(alloc, SEED, MOST_CALLS)?;
     let trace = trace_on(alloc, &alike(alloc, ALARMS as usize)?, DEVICE, &steps)?;
     let (commits, behind_pieces) = commits(&trace);
-    assert!(rt; commits >= ROUNDS / 2, "{commits}");
-    assert!(rt;
-        behind_pieces >= commits / 3,
-        "{behind_pieces} of {commits}"
-    );
+    holds_at(commits, commits >= ROUNDS / 2)?;
+    holds_at((behind_pieces, commits), behind_pieces >= commits / 3)?;
     Ok(())
 }
 
@@ -241,6 +231,6 @@ fn a_checkpoint_continues_without_a_batch(rt: HostRuntime) -> Result<(), Fail> {
     let steps = steps(alloc, SEED, MOST_CALLS)?;
     let trace = trace_on(alloc, &alike(alloc, ALARMS as usize)?, DEVICE, &steps)?;
     let alone = calls_alone(&steps, &trace).ok_or("a call after the end of a checkpoint")?;
-    assert!(rt; alone >= BEFORE, "{alone}");
+    holds_at(alone, alone >= BEFORE)?;
     Ok(())
 }

@@ -2,9 +2,10 @@
 
 use crate::traces::{differs_at, formatted, trace};
 use alm_bench::{Bench, Step, StepEvent, life};
+use alm_common_tests::{moment_of, reading_of, same, same_at, slot_of};
 use alm_disk::MemDisk;
 use alm_keeper::OpenFault;
-use alm_types::{Action, AlarmId, Moment, Query, Reading, Refusal, Slot, Verdict, Want};
+use alm_types::{Action, AlarmId, Query, Refusal, Slot, Verdict, Want};
 use std::alloc::Global;
 use std::test::Fail;
 
@@ -77,21 +78,21 @@ fn events_of_one_action(clock: Slot, now: &Action) -> [StepEvent; 18] {
 #[test]
 fn one_action_goes_its_way(rt: HostRuntime) -> Result<(), Fail> {
     let alloc = rt.alloc();
-    let clock = Slot::new(17).ok_or("slot")?;
-    let console = Slot::new(0).ok_or("slot")?;
-    let now = Action::Clock(Moment::new(1000).ok_or("moment")?);
+    let clock = slot_of(17)?;
+    let console = slot_of(0)?;
+    let now = Action::Clock(moment_of(1000)?);
     let wanted = events_of_one_action(clock, &now);
     let steps = steps_of_one_action(alloc, clock, console, now);
     let found = goes_so(alloc, CALLS, &steps, &wanted);
     drop(steps);
-    assert_eq!(rt; found?, None);
+    same(found?, None)?;
     Ok(())
 }
 
 /// What is opened after a crash after `calls` calls of a commit of one action, if the pending bytes stay as they read.
 fn opened_after(alloc: Global, calls: usize) -> Result<Option<StepEvent>, Fail> {
-    let clock = Slot::new(17).ok_or("slot")?;
-    let now = Action::Clock(Moment::new(1000).ok_or("moment")?);
+    let clock = slot_of(17)?;
+    let now = Action::Clock(moment_of(1000)?);
     let mut steps = Vec::new(alloc);
     steps.push(Step::Reopen)?;
     steps.push(Step::Send(clock, Want::Do(now)))?;
@@ -109,11 +110,11 @@ fn opened_after(alloc: Global, calls: usize) -> Result<Option<StepEvent>, Fail> 
 #[test]
 fn a_crash_after_each_call(rt: HostRuntime) -> Result<(), Fail> {
     for (calls, count) in [(0, 0), (1, 0), (2, 0), (3, 1), (4, 1)] {
-        assert_eq!(rt;
+        same_at(
+            calls,
             opened_after(rt.alloc(), calls)?,
             Some(StepEvent::Opened(count)),
-            "after {calls}"
-        );
+        )?;
     }
     Ok(())
 }
@@ -121,8 +122,8 @@ fn a_crash_after_each_call(rt: HostRuntime) -> Result<(), Fail> {
 #[test]
 fn a_failure_closes_the_bench(rt: HostRuntime) -> Result<(), Fail> {
     let alloc = rt.alloc();
-    let clock = Slot::new(17).ok_or("slot")?;
-    let now = Action::Clock(Moment::new(1000).ok_or("moment")?);
+    let clock = slot_of(17)?;
+    let now = Action::Clock(moment_of(1000)?);
     let steps = [
         Step::Reopen,
         Step::Send(clock, Want::Do(now)),
@@ -156,7 +157,7 @@ fn a_failure_closes_the_bench(rt: HostRuntime) -> Result<(), Fail> {
     // Ten calls to format, six to open, and two of the commit.
     let found = goes_so(alloc, 18, &steps, &wanted);
     drop(steps);
-    assert_eq!(rt; found?, None);
+    same(found?, None)?;
     Ok(())
 }
 
@@ -224,15 +225,15 @@ fn events_of_a_refusal(
 #[test]
 fn a_refusal_waits_for_the_actions_before_it(rt: HostRuntime) -> Result<(), Fail> {
     let alloc = rt.alloc();
-    let feed = Slot::new(16).ok_or("slot")?;
-    let console = Slot::new(0).ok_or("slot")?;
-    let value = Action::Value(AlarmId(0), Reading::new(800).ok_or("reading")?);
+    let feed = slot_of(16)?;
+    let console = slot_of(0)?;
+    let value = Action::Value(AlarmId(0), reading_of(800)?);
     let refused = Verdict::Refused(Refusal::WrongRole, 1);
     let wanted = events_of_a_refusal(feed, console, value, &refused);
     let steps = steps_of_a_refusal(feed, console, &value);
     let found = goes_so(alloc, CALLS, &steps, &wanted);
     drop(steps);
-    assert_eq!(rt; found?, None);
+    same(found?, None)?;
     Ok(())
 }
 
@@ -247,10 +248,10 @@ fn fault_of_zeros(alloc: Global, size: usize) -> Result<Option<OpenFault>, Fail>
 
 #[test]
 fn an_unformatted_device_is_refused(rt: HostRuntime) -> Result<(), Fail> {
-    assert_eq!(rt;
+    same(
         fault_of_zeros(rt.alloc(), 28_997)?,
-        Some(OpenFault::Unformatted)
-    );
+        Some(OpenFault::Unformatted),
+    )?;
     Ok(())
 }
 
@@ -294,7 +295,7 @@ fn goes_on(alloc: Global, disk: MemDisk, slot: Slot) -> bool {
 #[test]
 fn a_bench_goes_on_where_it_was(rt: HostRuntime) -> Result<(), Fail> {
     let alloc = rt.alloc();
-    let console = Slot::new(0).ok_or("slot")?;
+    let console = slot_of(0)?;
     assert!(rt; goes_on(alloc, formatted(alloc, CALLS)?, console));
     Ok(())
 }
@@ -307,7 +308,7 @@ fn tick(
     turn: u64,
     calls: u32,
 ) -> Result<(), Fail> {
-    let now = Action::Clock(Moment::new(turn).ok_or("moment")?);
+    let now = Action::Clock(moment_of(turn)?);
     let verdict = Verdict::Accepted(now);
     steps.push(Step::Send(clock, Want::Do(now)))?;
     wanted.push(StepEvent::Sent(turn))?;
@@ -351,7 +352,7 @@ fn calls_of(turn: u64) -> u32 {
 #[test]
 fn a_segment_half_full_makes_a_checkpoint(rt: HostRuntime) -> Result<(), Fail> {
     let alloc = rt.alloc();
-    let clock = Slot::new(17).ok_or("slot")?;
+    let clock = slot_of(17)?;
     let mut steps = Vec::new(alloc);
     let mut wanted = Vec::new(alloc);
     steps.push(Step::Reopen)?;
@@ -363,7 +364,7 @@ fn a_segment_half_full_makes_a_checkpoint(rt: HostRuntime) -> Result<(), Fail> {
     wanted.push(StepEvent::Crashed)?;
     steps.push(Step::Reopen)?;
     wanted.push(StepEvent::Opened(120))?;
-    assert_eq!(rt; goes_so(alloc, CALLS, &steps, &wanted)?, None);
+    same(goes_so(alloc, CALLS, &steps, &wanted)?, None)?;
     Ok(())
 }
 
@@ -378,7 +379,7 @@ fn a_batch_has_256_entries(rt: HostRuntime) -> Result<(), Fail> {
     steps.push(Step::Reopen)?;
     wanted.push(StepEvent::Opened(0))?;
     for slot in 0..4 {
-        let slot = Slot::new(slot).ok_or("slot")?;
+        let slot = slot_of(slot)?;
         for serial in 1..=64 {
             steps.push(Step::Send(slot, Want::Do(ack)))?;
             wanted.push(StepEvent::Sent(serial))?;
@@ -386,7 +387,7 @@ fn a_batch_has_256_entries(rt: HostRuntime) -> Result<(), Fail> {
             wanted.push(StepEvent::Took(refused))?;
         }
     }
-    let last = Slot::new(4).ok_or("slot")?;
+    let last = slot_of(4)?;
     steps.push(Step::Send(last, Want::Do(ack)))?;
     wanted.push(StepEvent::Sent(1))?;
     for (step, event) in [
@@ -397,7 +398,7 @@ fn a_batch_has_256_entries(rt: HostRuntime) -> Result<(), Fail> {
         steps.push(step)?;
         wanted.push(event)?;
     }
-    assert_eq!(rt; goes_so(alloc, CALLS, &steps, &wanted)?, None);
+    same(goes_so(alloc, CALLS, &steps, &wanted)?, None)?;
     Ok(())
 }
 
@@ -429,8 +430,8 @@ fn lives_so(
 #[test]
 fn the_last_epoch_has_room_for_one_segment(rt: HostRuntime) -> Result<(), Fail> {
     let alloc = rt.alloc();
-    let clock = Slot::new(17).ok_or("slot")?;
-    let last = Action::Clock(Moment::new(118).ok_or("moment")?);
+    let clock = slot_of(17)?;
+    let last = Action::Clock(moment_of(118)?);
     let mut steps = Vec::new(alloc);
     let mut wanted = Vec::new(alloc);
     steps.push(Step::Reopen)?;
@@ -450,6 +451,6 @@ fn the_last_epoch_has_room_for_one_segment(rt: HostRuntime) -> Result<(), Fail> 
         wanted.push(event)?;
     }
     let disk = in_the_last_epoch(alloc)?;
-    assert_eq!(rt; lives_so(alloc, disk, &steps, &wanted)?, None);
+    same(lives_so(alloc, disk, &steps, &wanted)?, None)?;
     Ok(())
 }

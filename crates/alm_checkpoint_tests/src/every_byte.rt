@@ -3,6 +3,7 @@
 use crate::judge::judged;
 use crate::worked::{device_of, open, set};
 use alm_codec::Version;
+use alm_common_tests::same;
 use std::alloc::Global;
 use std::ops::Range;
 use std::test::Fail;
@@ -33,40 +34,40 @@ fn first_dispute(alloc: Global, places: Range<usize>) -> Result<Option<usize>, F
 
 #[test]
 fn header_and_head(rt: HostRuntime) -> Result<(), Fail> {
-    assert_eq!(rt; first_dispute(rt.alloc(), 0..64)?, None);
-    assert_eq!(rt; dispute_in(rt.alloc(), Version::V02, 0..64)?, None);
-    assert_eq!(rt; dispute_in(rt.alloc(), Version::V03, 0..64)?, None);
+    same(first_dispute(rt.alloc(), 0..64)?, None)?;
+    same(dispute_in(rt.alloc(), Version::V02, 0..64)?, None)?;
+    same(dispute_in(rt.alloc(), Version::V03, 0..64)?, None)?;
     Ok(())
 }
 
 #[test]
 fn frames_and_gates_of_version_03(rt: HostRuntime) -> Result<(), Fail> {
-    assert_eq!(rt; dispute_in(rt.alloc(), Version::V03, 9666..9676)?, None);
-    assert_eq!(rt; dispute_in(rt.alloc(), Version::V03, 10_394..10_470)?, None);
-    assert_eq!(rt; dispute_in(rt.alloc(), Version::V03, 14_509..14_536)?, None);
+    same(dispute_in(rt.alloc(), Version::V03, 9666..9676)?, None)?;
+    same(dispute_in(rt.alloc(), Version::V03, 10_394..10_470)?, None)?;
+    same(dispute_in(rt.alloc(), Version::V03, 14_509..14_536)?, None)?;
     Ok(())
 }
 
 #[test]
 fn areas(rt: HostRuntime) -> Result<(), Fail> {
-    assert_eq!(rt; first_dispute(rt.alloc(), 64..9666)?, None);
+    same(first_dispute(rt.alloc(), 64..9666)?, None)?;
     Ok(())
 }
 
 #[test]
 fn alarms(rt: HostRuntime) -> Result<(), Fail> {
-    assert_eq!(rt; first_dispute(rt.alloc(), 9666..10_394)?, None);
+    same(first_dispute(rt.alloc(), 9666..10_394)?, None)?;
     Ok(())
 }
 
 #[test]
 fn segment(rt: HostRuntime) -> Result<(), Fail> {
-    assert_eq!(rt; first_dispute(rt.alloc(), 10_394..14_510)?, None);
+    same(first_dispute(rt.alloc(), 10_394..14_510)?, None)?;
     Ok(())
 }
 
 #[test]
 fn second_half(rt: HostRuntime) -> Result<(), Fail> {
-    assert_eq!(rt; first_dispute(rt.alloc(), 14_510..28_997)?, None);
+    same(first_dispute(rt.alloc(), 14_510..28_997)?, None)?;
     Ok(())
 }

@@ -2,6 +2,7 @@
 
 use crate::worked::{Opened, device_of, open};
 use alm_codec::Version;
+use alm_common_tests::same;
 use std::alloc::Global;
 use std::test::Fail;
 
@@ -67,7 +68,7 @@ fn no_flip_is_silent_in_version_03(rt: HostRuntime) -> Result<(), Fail> {
         reported: REPORTED,
         silent: 0,
     };
-    assert_eq!(rt; flip_all(rt.alloc(), Version::V03)?, reported);
+    same(flip_all(rt.alloc(), Version::V03)?, reported)?;
     Ok(())
 }
 

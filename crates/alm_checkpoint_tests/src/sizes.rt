@@ -3,6 +3,7 @@
 use crate::worked::{Opened, damaged, device, open};
 use alm_checkpoint::{DeviceFault, Half, Layout};
 use alm_codec::Version;
+use alm_common_tests::{holds_at, same};
 use std::test::Fail;
 
 /// Alarms, areas and the bytes of a device, and the longest segment that fits twice.
@@ -37,17 +38,19 @@ fn is_longest((rows, areas, size, segment): Size) -> bool {
 }
 
 #[test]
-fn the_longest_segments(rt: HostRuntime) {
+fn the_longest_segments() -> Result<(), Fail> {
     for size in SIZES {
-        assert!(rt; is_longest(size), "{size:?}");
+        holds_at(size, is_longest(size))?;
     }
+    Ok(())
 }
 
 #[test]
-fn the_largest_table(rt: HostRuntime) {
+fn the_largest_table() -> Result<(), Fail> {
     let longest = Layout::of(16_384, 64, 16_777_216, Version::V02);
-    assert_eq!(rt; longest.segment_at(Half::Second), 23_355_625);
-    assert_eq!(rt; longest.device_len(), 40_132_841);
+    same(longest.segment_at(Half::Second), 23_355_625)?;
+    same(longest.device_len(), 40_132_841)?;
+    Ok(())
 }
 
 #[test]
@@ -60,10 +63,10 @@ fn short_devices(rt: HostRuntime) -> Result<(), Fail> {
         } else {
             damaged(2, 15)
         };
-        assert_eq!(rt; open(rt.alloc(), short), expected);
+        same(open(rt.alloc(), short), expected)?;
     }
     let short = bytes.get(..28_996).ok_or("front")?;
-    assert_eq!(rt; open(rt.alloc(), short), damaged(2, 15));
+    same(open(rt.alloc(), short), damaged(2, 15))?;
     Ok(())
 }
 
@@ -72,6 +75,6 @@ fn longer_devices(rt: HostRuntime) -> Result<(), Fail> {
     let mut bytes = device(rt.alloc(), 2, 800)?;
     let whole = open(rt.alloc(), &bytes);
     bytes.push(0xA5)?;
-    assert_eq!(rt; open(rt.alloc(), &bytes), whole);
+    same(open(rt.alloc(), &bytes), whole)?;
     Ok(())
 }

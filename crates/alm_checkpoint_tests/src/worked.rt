@@ -2,8 +2,9 @@
 
 use alm_checkpoint::{DeviceFault, Half, HalfHead, Layout, RestoreFault, image_sum, recover};
 use alm_codec::{Asked, Asker, OPEN_GATE, Version, image_len, write_frame_body, write_image};
+use alm_common_tests::{moment_of, reading_of};
 use alm_model::{Alarms, PlainPlant};
-use alm_types::{Action, AlarmId, Attr, Kind, Moment, Reading, Settings, Table};
+use alm_types::{Action, AlarmId, Attr, Kind, Settings, Table};
 use std::alloc::Global;
 use std::test::Fail;
 
@@ -86,11 +87,11 @@ fn image<P: Alarms + Drop>(alloc: Global) -> Result<Vec<u8>, Fail> {
 }
 
 pub fn clock(seconds: u64) -> Result<Action, Fail> {
-    Ok(Action::Clock(Moment::new(seconds).ok_or("moment")?))
+    Ok(Action::Clock(moment_of(seconds)?))
 }
 
 pub fn value(alarm: u32, value: i64) -> Result<Action, Fail> {
-    Ok(Action::Value(AlarmId(alarm), Reading::new(value).ok_or("reading")?))
+    Ok(Action::Value(AlarmId(alarm), reading_of(value)?))
 }
 
 /// Puts a frame of one action of epoch 1 after the others, and opens its gate.

@@ -1,7 +1,8 @@
 //! The texts of actions.
 
 use alm_codec::{Damage, Version, read_action, write_action};
-use alm_types::{Action, AlarmId, Moment, Reading};
+use alm_common_tests::{holds_at, moment_of, reading_of};
+use alm_types::{Action, AlarmId};
 use std::test::Fail;
 
 /// Whether an action and a text are each other's in version 02.
@@ -77,9 +78,9 @@ const NONE: [&[u8]; 14] = [
 
 #[test]
 fn texts_of_moments_and_values(rt: HostRuntime) -> Result<(), Fail> {
-    let moment = Moment::new(1000).ok_or("moment")?;
-    let high = Reading::new(800).ok_or("reading")?;
-    let below = Reading::new(-5).ok_or("reading")?;
+    let moment = moment_of(1000)?;
+    let high = reading_of(800)?;
+    let below = reading_of(-5)?;
     assert!(rt;
         is_text(
             Action::Clock(moment),
@@ -104,10 +105,11 @@ fn texts_of_moments_and_values(rt: HostRuntime) -> Result<(), Fail> {
 }
 
 #[test]
-fn texts_of_actions_of_alarms(rt: HostRuntime) {
-    for (action, text) in TEXTS {
-        assert!(rt; is_text(action, &text), "{action:?}");
+fn texts_of_actions_of_alarms() -> Result<(), Fail> {
+    for (row, (action, text)) in TEXTS.iter().enumerate() {
+        holds_at(row, is_text(*action, text))?;
     }
+    Ok(())
 }
 
 #[test]
@@ -116,15 +118,16 @@ fn texts_of_version_02_alone(rt: HostRuntime) -> Result<(), Fail> {
     assert!(rt; is_new_text(&Action::SetPriority(AlarmId(2), 2), &priority));
     assert!(rt; is_none_in(&priority, Version::V01));
     let setpoint = [10, 0, 0, 0, 0, 0, 0, 0, 0, 0, 0, 0, 0, 0, 3, 0x84];
-    let reading = Reading::new(900).ok_or("reading")?;
+    let reading = reading_of(900)?;
     assert!(rt; is_new_text(&Action::SetSetpoint(AlarmId(0), reading), &setpoint));
     assert!(rt; is_none_in(&setpoint, Version::V01));
     Ok(())
 }
 
 #[test]
-fn bytes_that_are_no_action(rt: HostRuntime) {
+fn bytes_that_are_no_action() -> Result<(), Fail> {
     for (row, bytes) in NONE.iter().enumerate() {
-        assert!(rt; is_none(bytes), "row {row}");
+        holds_at(row, is_none(bytes))?;
     }
+    Ok(())
 }

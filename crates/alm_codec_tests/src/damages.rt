@@ -5,6 +5,7 @@
 
 use crate::worked::{clock, image_after, value};
 use alm_codec::{Damage, ImageFault, read_image};
+use alm_common_tests::same;
 use alm_model::PlainPlant;
 use alm_types::{Action, AlarmId};
 use std::alloc::Global;
@@ -104,8 +105,8 @@ const AREAS: [Case; 10] = [
 #[test]
 fn the_clock_the_next_stamp_and_the_areas(rt: HostRuntime) -> Result<(), Fail> {
     let bytes = stands(rt.alloc())?;
-    assert_eq!(rt; first_wrong(rt.alloc(), &bytes, &HEAD, 4)?, None);
-    assert_eq!(rt; first_wrong(rt.alloc(), &bytes, &AREAS, 4)?, None);
+    same(first_wrong(rt.alloc(), &bytes, &HEAD, 4)?, None)?;
+    same(first_wrong(rt.alloc(), &bytes, &AREAS, 4)?, None)?;
     Ok(())
 }
 
@@ -120,7 +121,7 @@ const AGES_OF_NEW: [Case; 4] = [
 #[test]
 fn ages_above_now(rt: HostRuntime) -> Result<(), Fail> {
     let bytes = image_after::<PlainPlant>(rt.alloc(), &[])?;
-    assert_eq!(rt; first_wrong(rt.alloc(), &bytes, &AGES_OF_NEW, 0)?, None);
+    same(first_wrong(rt.alloc(), &bytes, &AGES_OF_NEW, 0)?, None)?;
     Ok(())
 }
 
@@ -167,8 +168,8 @@ const TEXTS: [Case; 13] = [
 #[test]
 fn attributes(rt: HostRuntime) -> Result<(), Fail> {
     let bytes = stands(rt.alloc())?;
-    assert_eq!(rt; first_wrong(rt.alloc(), &bytes, &NUMBERS, 4)?, None);
-    assert_eq!(rt; first_wrong(rt.alloc(), &bytes, &TEXTS, 4)?, None);
+    same(first_wrong(rt.alloc(), &bytes, &NUMBERS, 4)?, None)?;
+    same(first_wrong(rt.alloc(), &bytes, &TEXTS, 4)?, None)?;
     Ok(())
 }
 
@@ -217,7 +218,7 @@ const MOMENTS: [Case; 16] = [
 #[test]
 fn states(rt: HostRuntime) -> Result<(), Fail> {
     let bytes = stands(rt.alloc())?;
-    assert_eq!(rt; first_wrong(rt.alloc(), &bytes, &STATES, 4)?, None);
-    assert_eq!(rt; first_wrong(rt.alloc(), &bytes, &MOMENTS, 4)?, None);
+    same(first_wrong(rt.alloc(), &bytes, &STATES, 4)?, None)?;
+    same(first_wrong(rt.alloc(), &bytes, &MOMENTS, 4)?, None)?;
     Ok(())
 }

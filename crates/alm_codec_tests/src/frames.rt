@@ -1,7 +1,8 @@
 //! The texts of frames.
 
 use alm_codec::{Asked, Asker, Damage, Version, read_frame, write_frame_body};
-use alm_types::{Action, AlarmId, MOST_ENTRIES, Moment, Reading, Slot};
+use alm_common_tests::{moment_of, reading_of, same, same_at, slot_of};
+use alm_types::{Action, AlarmId, MOST_ENTRIES};
 use std::test::Fail;
 
 /// A frame of one action without its gate, with the next gate closed.
@@ -25,7 +26,7 @@ fn unsaid(action: Action) -> Asked {
 
 /// An action that a slot asked for, as a version's frames say it.
 fn asked(slot: u8, action: Action, version: Version) -> Result<Asked, Fail> {
-    let asker = Asker::of(Slot::new(slot).ok_or("slot")?, version);
+    let asker = Asker::of(slot_of(slot)?, version);
     Ok(Asked { asker, action })
 }
 
@@ -33,26 +34,22 @@ fn asked(slot: u8, action: Action, version: Version) -> Result<Asked, Fail> {
 fn frames_are_written_and_read(rt: HostRuntime) -> Result<(), Fail> {
     let mut actions = Vec::with_capacity(rt.alloc(), MOST_ENTRIES)?;
     let mut out = [9; 36];
-    let clock = asked(
-        17,
-        Action::Clock(Moment::new(1000).ok_or("moment")?),
-        Version::V02,
-    )?;
+    let clock = asked(17, Action::Clock(moment_of(1000)?), Version::V02)?;
     write_frame_body(1, 1, &[clock], &mut out, Version::V02);
     assert!(rt; out[..35] == CLOCK_FRAME[..] && out[35] == 9);
-    assert_eq!(rt;
+    same(
         read_frame(&CLOCK_FRAME, 1, 0, &mut actions, Version::V02),
-        Ok(34)
-    );
-    assert_eq!(rt; actions.as_slice(), [clock].as_slice());
-    let value = unsaid(Action::Value(AlarmId(0), Reading::new(800).ok_or("reading")?));
+        Ok(34),
+    )?;
+    same(actions.as_slice(), [clock].as_slice())?;
+    let value = unsaid(Action::Value(AlarmId(0), reading_of(800)?));
     write_frame_body(1, 2, &[value], &mut out, Version::V02);
     assert!(rt; out[..35] == VALUE_FRAME[..]);
-    assert_eq!(rt;
+    same(
         read_frame(&VALUE_FRAME, 1, 1, &mut actions, Version::V02),
-        Ok(34)
-    );
-    assert_eq!(rt; actions.as_slice(), [value].as_slice());
+        Ok(34),
+    )?;
+    same(actions.as_slice(), [value].as_slice())?;
     Ok(())
 }
 
@@ -82,11 +79,11 @@ fn damaged_frames(rt: HostRuntime) -> Result<(), Fail> {
             *frame.get_mut(place).ok_or("place")? = byte;
         }
         let bytes = frame.get(..length).ok_or("length")?;
-        assert_eq!(rt;
+        same_at(
+            (length, change, epoch, count),
             read_frame(bytes, epoch, count, &mut actions, Version::V02),
             Err(Damage { at }),
-            "{length} bytes, {change:?} in epoch {epoch} after {count}"
-        );
+        )?;
     }
     Ok(())
 }
@@ -104,15 +101,15 @@ fn a_frame_of_version_02(rt: HostRuntime) -> Result<(), Fail> {
     let priorities = [unsaid(Action::SetPriority(AlarmId(0), 3))];
     write_frame_body(2, 3, &priorities, &mut out, Version::V02);
     assert!(rt; out[..] == PRIORITY_FRAME[..]);
-    assert_eq!(rt;
+    same(
         read_frame(&PRIORITY_FRAME, 2, 2, &mut actions, Version::V02),
-        Ok(34)
-    );
-    assert_eq!(rt; actions.as_slice(), priorities.as_slice());
-    assert_eq!(rt;
+        Ok(34),
+    )?;
+    same(actions.as_slice(), priorities.as_slice())?;
+    same(
         read_frame(&PRIORITY_FRAME, 2, 2, &mut actions, Version::V01),
-        Err(Damage { at: 18 })
-    );
+        Err(Damage { at: 18 }),
+    )?;
     assert!(rt; actions.is_empty());
     Ok(())
 }
@@ -123,16 +120,16 @@ fn the_longest_frame(rt: HostRuntime) -> Result<(), Fail> {
     let all = [unsaid(Action::Ack(AlarmId(7))); 256];
     let mut out = [0; 4115];
     write_frame_body(u64::MAX, 5, &all, &mut out, Version::V02);
-    assert_eq!(rt;
+    same(
         read_frame(&out, u64::MAX, 4, &mut actions, Version::V02),
-        Ok(4114)
-    );
-    assert_eq!(rt; actions.as_slice(), all.as_slice());
+        Ok(4114),
+    )?;
+    same(actions.as_slice(), all.as_slice())?;
     out[18 + 16 * 255] = 0;
-    assert_eq!(rt;
+    same(
         read_frame(&out, u64::MAX, 4, &mut actions, Version::V02),
-        Err(Damage { at: 4098 })
-    );
+        Err(Damage { at: 4098 }),
+    )?;
     Ok(())
 }
 
@@ -146,19 +143,19 @@ const SUMMED_FRAME: [u8; 35] = [
 fn a_frame_of_version_03(rt: HostRuntime) -> Result<(), Fail> {
     let mut actions = Vec::with_capacity(rt.alloc(), MOST_ENTRIES)?;
     let mut out = [9; 36];
-    let clock = unsaid(Action::Clock(Moment::new(1000).ok_or("moment")?));
+    let clock = unsaid(Action::Clock(moment_of(1000)?));
     write_frame_body(1, 1, &[clock], &mut out, Version::V03);
     assert!(rt; out[..35] == SUMMED_FRAME[..] && out[35] == 9);
-    assert_eq!(rt;
+    same(
         read_frame(&SUMMED_FRAME, 1, 0, &mut actions, Version::V03),
-        Ok(34)
-    );
-    assert_eq!(rt; actions.as_slice(), [clock].as_slice());
+        Ok(34),
+    )?;
+    same(actions.as_slice(), [clock].as_slice())?;
     for version in [Version::V01, Version::V02] {
-        assert_eq!(rt;
+        same(
             read_frame(&SUMMED_FRAME, 1, 0, &mut actions, version),
-            Err(Damage { at: 8 })
-        );
+            Err(Damage { at: 8 }),
+        )?;
     }
     Ok(())
 }
@@ -179,11 +176,11 @@ fn a_changed_byte_is_reported(rt: HostRuntime) -> Result<(), Fail> {
             let mut frame = SUMMED_FRAME;
             let byte = frame.get_mut(place).ok_or("place")?;
             *byte ^= change;
-            assert_eq!(rt;
+            same_at(
+                (place, change),
                 read_frame(&frame, 1, 0, &mut actions, Version::V03),
                 Err(Damage { at }),
-                "byte {place} by {change}"
-            );
+            )?;
         }
     }
     Ok(())
@@ -199,11 +196,11 @@ fn the_longest_frame_of_version_03(rt: HostRuntime) -> Result<(), Fail> {
     let mut out = [0; 4115];
     write_frame_body(u64::MAX, 5, &all, &mut out, Version::V03);
     assert!(rt; out[8..18] == LONGEST_HEAD[..]);
-    assert_eq!(rt;
+    same(
         read_frame(&out, u64::MAX, 4, &mut actions, Version::V03),
-        Ok(4114)
-    );
-    assert_eq!(rt; actions.as_slice(), all.as_slice());
+        Ok(4114),
+    )?;
+    same(actions.as_slice(), all.as_slice())?;
     Ok(())
 }
 
@@ -217,17 +214,17 @@ const ASKED_FRAME: [u8; 51] = [
 fn version_03_says_who_asked(rt: HostRuntime) -> Result<(), Fail> {
     let mut actions = Vec::with_capacity(rt.alloc(), MOST_ENTRIES)?;
     let mut out = [9; 52];
-    let clock = Action::Clock(Moment::new(1000).ok_or("moment")?);
+    let clock = Action::Clock(moment_of(1000)?);
     let all = [
         asked(17, clock, Version::V03)?,
         asked(15, Action::Ack(AlarmId(7)), Version::V03)?,
     ];
     write_frame_body(1, 1, &all, &mut out, Version::V03);
     assert!(rt; out[..51] == ASKED_FRAME[..] && out[51] == 9);
-    assert_eq!(rt;
+    same(
         read_frame(&ASKED_FRAME, 1, 0, &mut actions, Version::V03),
-        Ok(50)
-    );
-    assert_eq!(rt; actions.as_slice(), all.as_slice());
+        Ok(50),
+    )?;
+    same(actions.as_slice(), all.as_slice())?;
     Ok(())
 }

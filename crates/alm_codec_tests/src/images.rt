@@ -2,6 +2,7 @@
 
 use crate::worked::{clock, image, image_after, value};
 use alm_codec::{Damage, ImageFault, read_image};
+use alm_common_tests::same;
 use alm_model::{Alarms, PlainPlant};
 use alm_types::AlarmId;
 use std::alloc::Global;
@@ -22,13 +23,13 @@ fn is_read_back<P: Alarms + Drop>(alloc: Global, bytes: &[u8]) -> Result<bool, F
 #[test]
 fn the_image_of_a_new_plant(rt: HostRuntime) -> Result<(), Fail> {
     let bytes = image_after::<PlainPlant>(rt.alloc(), &[])?;
-    assert_eq!(rt; bytes.len(), 10_346);
+    same(bytes.len(), 10_346)?;
     let head = [
         1, 1, 0, 0, 0, 0, 0, 0, 0, 0, 3, 0x20, 0, 0, 0, 0, 0, 0, 0, 0x0a, 0, 0, 0x0e, 0x10, 6,
         0x54, 0x49, 0x2d, 0x31, 0x30, 0x31,
     ];
-    assert_eq!(rt; bytes.get(9618..9649), Some(head.as_slice()));
-    assert_eq!(rt; bytes.get(9649..9800), Some([0; 151].as_slice()));
+    same(bytes.get(9618..9649), Some(head.as_slice()))?;
+    same(bytes.get(9649..9800), Some([0; 151].as_slice()))?;
     assert!(rt; read_image(rt.alloc(), &bytes, 4, 2, 0).is_ok());
     assert!(rt; is_read_back::<PlainPlant>(rt.alloc(), &bytes)?);
     Ok(())
@@ -40,12 +41,12 @@ fn the_image_after_an_annunciation(rt: HostRuntime) -> Result<(), Fail> {
     let front = [
         0, 0, 0, 0, 0, 0, 3, 0xe8, 0, 0, 0, 0, 0, 0, 0, 2, 0, 0, 0, 0, 0, 0, 0, 0, 1,
     ];
-    assert_eq!(rt; bytes.get(..25), Some(front.as_slice()));
+    same(bytes.get(..25), Some(front.as_slice()))?;
     let tail = [
         1, 1, 0, 1, 0, 0, 0, 0, 0, 0, 0, 0, 0, 0, 0, 0, 0, 0, 0, 1, 0, 0, 0, 0, 0, 0, 3, 0xe8,
     ];
-    assert_eq!(rt; bytes.get(9756..9784), Some(tail.as_slice()));
-    assert_eq!(rt; bytes.get(9784..9800), Some([0; 16].as_slice()));
+    same(bytes.get(9756..9784), Some(tail.as_slice()))?;
+    same(bytes.get(9784..9800), Some([0; 16].as_slice()))?;
     assert!(rt; read_image(rt.alloc(), &bytes, 4, 2, 2).is_ok());
     assert!(rt; is_read_back::<PlainPlant>(rt.alloc(), &bytes)?);
     Ok(())
@@ -55,19 +56,19 @@ fn the_image_after_an_annunciation(rt: HostRuntime) -> Result<(), Fail> {
 fn bytes_behind_an_image_are_damage(rt: HostRuntime) -> Result<(), Fail> {
     let mut bytes = image_after::<PlainPlant>(rt.alloc(), &[])?;
     bytes.push(0)?;
-    assert_eq!(rt;
+    same(
         read_image(rt.alloc(), &bytes, 4, 2, 0).err(),
-        Some(ImageFault::Damaged(Damage { at: 10_346 }))
-    );
+        Some(ImageFault::Damaged(Damage { at: 10_346 })),
+    )?;
     bytes.truncate(10_345);
-    assert_eq!(rt;
+    same(
         read_image(rt.alloc(), &bytes, 4, 2, 0).err(),
-        Some(ImageFault::Damaged(Damage { at: 10_338 }))
-    );
-    assert_eq!(rt;
+        Some(ImageFault::Damaged(Damage { at: 10_338 })),
+    )?;
+    same(
         read_image(rt.alloc(), &[], 4, 2, 0).err(),
-        Some(ImageFault::Damaged(Damage { at: 0 }))
-    );
+        Some(ImageFault::Damaged(Damage { at: 0 })),
+    )?;
     Ok(())
 }
 
@@ -112,9 +113,9 @@ fn read_with(alloc: Global, place: usize, byte: u8) -> Result<(u64, Option<u8>),
 #[test]
 fn a_changed_byte_is_read_where_it_may_stand(rt: HostRuntime) -> Result<(), Fail> {
     let alloc = rt.alloc();
-    assert_eq!(rt; read_with(alloc, 7, 0xe8)?, (1000, Some(b'T')));
-    assert_eq!(rt; read_with(alloc, 7, 0xff)?, (1023, Some(b'T')));
-    assert_eq!(rt; read_with(alloc, 3, 1)?, (4_294_968_296, Some(b'T')));
-    assert_eq!(rt; read_with(alloc, 9_643, b'A')?, (1000, Some(b'A')));
+    same(read_with(alloc, 7, 0xe8)?, (1000, Some(b'T')))?;
+    same(read_with(alloc, 7, 0xff)?, (1023, Some(b'T')))?;
+    same(read_with(alloc, 3, 1)?, (4_294_968_296, Some(b'T')))?;
+    same(read_with(alloc, 9_643, b'A')?, (1000, Some(b'A')))?;
     Ok(())
 }

@@ -4,6 +4,7 @@ ghost use Rattle.std.specs.Prelude.{◌≤◌};
 
 use crate::worked::{act, image, value};
 use alm_codec::read_image;
+use alm_common_tests::same;
 use alm_model::{Alarms, PlainPlant};
 use alm_types::{Attr, Kind, Settings, Table};
 use std::alloc::Global;
@@ -64,8 +65,8 @@ fn read_again<P: Alarms + Drop>(alloc: Global, bytes: &[u8]) -> Result<(u64, boo
 fn the_largest_image(rt: HostRuntime) -> Result<(), Fail> {
     let alloc = rt.alloc();
     let bytes = largest_image::<PlainPlant>(alloc)?;
-    assert_eq!(rt; bytes.len(), 3_289_168);
-    assert_eq!(rt; read_again::<PlainPlant>(alloc, &bytes)?, (16_384, true));
+    same(bytes.len(), 3_289_168)?;
+    same(read_again::<PlainPlant>(alloc, &bytes)?, (16_384, true))?;
     Ok(())
 }
 

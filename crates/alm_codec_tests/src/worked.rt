@@ -1,8 +1,9 @@
 //! A worked plant of four alarms in two areas, and its image.
 
 use alm_codec::{image_len, write_image};
+use alm_common_tests::{moment_of, reading_of};
 use alm_model::Alarms;
-use alm_types::{Action, AlarmId, Attr, Kind, Moment, Reading, Refusal, Settings, Table};
+use alm_types::{Action, AlarmId, Attr, Kind, Refusal, Settings, Table};
 use std::alloc::Global;
 use std::test::Fail;
 
@@ -84,11 +85,11 @@ pub fn image_after<P: Alarms + Drop>(alloc: Global, actions: &[Action]) -> Resul
 }
 
 pub fn clock(seconds: u64) -> Result<Action, Fail> {
-    Ok(Action::Clock(Moment::new(seconds).ok_or("moment")?))
+    Ok(Action::Clock(moment_of(seconds)?))
 }
 
 pub fn value(alarm: u32, value: i64) -> Result<Action, Fail> {
-    Ok(Action::Value(AlarmId(alarm), Reading::new(value).ok_or("reading")?))
+    Ok(Action::Value(AlarmId(alarm), reading_of(value)?))
 }
 
 /// The image of a plant.

@@ -2,6 +2,7 @@
 
 use crate::desk::{new_desk, new_desk_over, printed};
 use crate::device_desk::prints_over_a_device;
+use alm_common_tests::{holds_at, same_at};
 use alm_desk::{Backend, LocalDesk};
 use alm_model::{Alarms, PlainPlant};
 use alm_plant::Plant;
@@ -78,18 +79,18 @@ pub fn prints_anew<I: Read + Drop>(alloc: Global, reader: I, wanted: &[u8]) -> b
 pub fn check<R: Abort + AllocGlobal>(rt: &R, name: &str, row: Row) -> Result<(), Fail> {
     let alloc = rt.alloc();
     let wrong = first_wrong_of_new::<Plant>(alloc, row)?;
-    assert_eq!(rt; wrong, None, "{name}, line by line");
+    same_at(name, wrong, None)?;
     let wrong = first_wrong_of_new::<PlainPlant>(alloc, row)?;
-    assert_eq!(rt; wrong, None, "{name}, over the plain plant");
+    same_at(name, wrong, None)?;
     let (input, wanted) = texts(alloc, row)?;
     let input = input.as_str().as_bytes();
     let wanted = wanted.as_str().as_bytes();
     for at in 0..=input.len() {
         let (front, back) = input.split_at(at);
         let same = prints_anew(alloc, front.chain(back), wanted);
-        assert!(rt; same, "{name}, cut at {at}");
+        holds_at((name, at), same)?;
     }
     let same = prints_over_a_device(alloc, input, wanted);
-    assert!(rt; same, "{name}, over a device");
+    holds_at(name, same)?;
     Ok(())
 }

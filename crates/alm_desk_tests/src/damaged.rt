@@ -1,6 +1,7 @@
 //! Devices over which no stack is opened.
 
 use crate::device_desk::fault_with;
+use alm_common_tests::same_at;
 use alm_keeper::OpenFault;
 use std::test::Fail;
 
@@ -25,7 +26,7 @@ fn the_fault_of_a_device_is_told(rt: HostRuntime) -> Result<(), Fail> {
         (0, 0xA5, None),
     ] {
         let fault = fault_with(rt.alloc(), at, byte)?;
-        assert_eq!(rt; fault, wanted, "{at} set to {byte}");
+        same_at((at, byte), fault, wanted)?;
     }
     Ok(())
 }

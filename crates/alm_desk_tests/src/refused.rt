@@ -2,6 +2,7 @@
 //! is refused at most, so the list that was refused is answered the second time.
 
 use crate::desk::new_desk;
+use alm_common_tests::slot_of;
 use alm_desk::{Backend, CountedWriter, LocalDesk};
 use alm_types::Slot;
 use std::alloc::Global;
@@ -36,8 +37,8 @@ fn replies(alloc: Global, slots: (Slot, Slot)) -> Option<Vec<u8>> {
 
 #[test]
 fn a_list_without_memory_is_told_when_it_is_asked_for_again(rt: HostRuntime) -> Result<(), Fail> {
-    let feed = Slot::new(16).ok_or("slot")?;
-    let console = Slot::new(0).ok_or("slot")?;
+    let feed = slot_of(16)?;
+    let console = slot_of(0)?;
     let told = match replies(rt.alloc(), (feed, console)) {
         Some(told) => told,
         None => replies(rt.alloc(), (feed, console)).ok_or("refused twice")?,

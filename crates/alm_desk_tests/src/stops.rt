@@ -1,6 +1,7 @@
 //! A desk over a device that stops.
 
 use crate::device_desk::{answers, opens};
+use alm_common_tests::holds_at;
 use std::test::Fail;
 
 /// Three actions, four device calls each, a query and a line that isn't valid.
@@ -24,7 +25,7 @@ fn a_device_that_stops_answers_nothing_any_more(rt: HostRuntime) -> Result<(), F
     let alloc = rt.alloc();
     for calls in 0..OPENING {
         let opened = opens(alloc, FORMAT + calls);
-        assert!(rt; !opened, "{calls} calls");
+        holds_at(calls, !opened)?;
     }
     for calls in 0..14 {
         let done = (calls / 4).min(3);
@@ -35,7 +36,7 @@ fn a_device_that_stops_answers_nothing_any_more(rt: HostRuntime) -> Result<(), F
             PRINTS[done],
             done < 3,
         );
-        assert!(rt; same, "{calls} calls");
+        holds_at(calls, same)?;
     }
     Ok(())
 }

@@ -4,6 +4,7 @@ use crate::check::{prints, prints_anew};
 use crate::desk::{new_desk, printed};
 use crate::device_desk::prints_over_a_device;
 use crate::slow_writer::SlowWriter;
+use alm_common_tests::{holds_at, same, same_at, slot_of};
 use alm_desk::{
     Backend, CountedReader, CountedWriter, DeskFault, LocalDesk, RunFault, desk_of, desk_run,
 };
@@ -166,7 +167,7 @@ fn the_shortest_and_longest_lines_of_a_slot(rt: HostRuntime) -> Result<(), Fail>
         for cut in 0..=line.len() {
             let pieces = [Piece::Whole(0, &line[..cut]), Piece::Whole(0, &line[cut..])];
             let same = answers_anew(alloc, &pieces, wanted.as_bytes());
-            assert!(rt; same, "{len} bytes, cut at {cut}");
+            holds_at((len, cut), same)?;
         }
     }
     Ok(())
@@ -186,7 +187,7 @@ fn the_longest_lines_of_a_desk(rt: HostRuntime) -> Result<(), Fail> {
     for (front, len, wanted) in LONG_DESK_LINES {
         let line = line_of(alloc, front, len)?;
         let same = prints_anew(alloc, line.as_slice(), wanted.as_bytes());
-        assert!(rt; same, "{len} bytes");
+        holds_at(len, same)?;
     }
     Ok(())
 }
@@ -207,7 +208,7 @@ fn fed_twice<B: Backend + Drop>(
 #[test]
 fn a_failed_write_closes_the_desk(rt: HostRuntime) -> Result<(), Fail> {
     let alloc = rt.alloc();
-    let console = Slot::new(0).ok_or("slot")?;
+    let console = slot_of(0)?;
     let lines = b"1 STATE 0\n2 STATE 1\n3 LIST P 1\n";
     let wanted = b"1 STATE 0 NORM 0 - -\n2 STATE 0 NORM 0 - -\n3 LIST 0 0\n";
     for room in 0..=wanted.len() {
@@ -219,8 +220,8 @@ fn a_failed_write_closes_the_desk(rt: HostRuntime) -> Result<(), Fail> {
         } else {
             [Ok(()), Ok(())]
         };
-        assert_eq!(rt; fed, ends, "room for {room}");
-        assert_eq!(rt; writer.taken(), &wanted[..room], "room for {room}");
+        same_at(room, fed, ends)?;
+        same_at(room, writer.taken(), &wanted[..room])?;
     }
     Ok(())
 }
@@ -251,16 +252,12 @@ fn a_run_ends_where_its_writer_fails(rt: HostRuntime) -> Result<(), Fail> {
         let mut desk = new_desk(alloc)?;
         let (runs, writer) = run_twice(alloc, &mut desk, lines, SlowWriter::new(alloc, room));
         drop(desk);
-        assert_eq!(rt; writer.taken(), &wanted[..room], "room for {room}");
+        same_at(room, writer.taken(), &wanted[..room])?;
         if room < wanted.len() {
-            assert_eq!(rt;
-                runs,
-                [Err(RunFault::Write), Err(RunFault::Write)],
-                "room for {room}"
-            );
+            same_at(room, runs, [Err(RunFault::Write), Err(RunFault::Write)])?;
         } else {
-            assert_eq!(rt; runs, [Ok(()), Ok(())]);
-            assert_eq!(rt; writer.flushed(), wanted.len());
+            same(runs, [Ok(()), Ok(())])?;
+            same(writer.flushed(), wanted.len())?;
         }
     }
     Ok(())
@@ -319,6 +316,6 @@ fn a_list_of_16384_alarms(rt: HostRuntime) -> Result<(), Fail> {
     let lines = lines_of_all(alloc)?;
     let wanted = replies_to_all(alloc)?;
     let got = printed_by_all(alloc, lines.as_str())?;
-    assert_eq!(rt; got.as_slice(), wanted.as_str().as_bytes());
+    same(got.as_slice(), wanted.as_str().as_bytes())?;
     Ok(())
 }

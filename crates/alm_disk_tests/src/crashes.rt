@@ -2,6 +2,7 @@
 
 use crate::choosers::{Single, Stood};
 use crate::run::{CALLS, START, device, make_first, row_of};
+use alm_common_tests::{same, same_at};
 use alm_disk::{AsRead, Crashable, MemDisk};
 use std::alloc::{AllocError, Global};
 use std::test::Fail;
@@ -15,11 +16,11 @@ fn after(alloc: Global, calls: u64) -> Result<MemDisk, AllocError> {
 
 #[test]
 fn reads_as_the_rows_say(rt: HostRuntime) -> Result<(), Fail> {
-    assert_eq!(rt; after(rt.alloc(), 0)?.bytes(), START);
+    same(after(rt.alloc(), 0)?.bytes(), START)?;
     for calls in 1..=CALLS {
         let disk = after(rt.alloc(), calls)?;
-        assert_eq!(rt; disk.bytes(), row_of(calls).reads, "after call {calls}");
-        assert_eq!(rt; disk.failures(), 0);
+        same_at(calls, disk.bytes(), row_of(calls).reads)?;
+        same(disk.failures(), 0)?;
     }
     Ok(())
 }
@@ -29,17 +30,9 @@ fn a_crash_leaves_what_stood_or_what_reads(rt: HostRuntime) -> Result<(), Fail> 
     for calls in 1..=CALLS {
         let row = row_of(calls);
         let old = after(rt.alloc(), calls)?.crash(&mut Stood { bytes: row.stood });
-        assert_eq!(rt;
-            old.bytes(),
-            row.stood,
-            "all as it stood, after call {calls}"
-        );
+        same_at(calls, old.bytes(), row.stood)?;
         let new = after(rt.alloc(), calls)?.crash(&mut AsRead);
-        assert_eq!(rt;
-            new.bytes(),
-            row.reads,
-            "all as it reads, after call {calls}"
-        );
+        same_at(calls, new.bytes(), row.reads)?;
     }
     Ok(())
 }
@@ -61,11 +54,7 @@ fn a_crash_leaves_any_byte_at_a_pending_place_alone(rt: HostRuntime) -> Result<(
                 } else {
                     row.reads.get(other as usize)
                 };
-                assert_eq!(rt;
-                    disk.bytes().get(other as usize),
-                    want,
-                    "place {other} after call {calls}"
-                );
+                same_at((other, calls), disk.bytes().get(other as usize), want)?;
             }
         }
     }
@@ -77,7 +66,7 @@ fn nothing_is_pending_after_a_crash(rt: HostRuntime) -> Result<(), Fail> {
     for calls in 1..=CALLS {
         let disk = after(rt.alloc(), calls)?.crash(&mut AsRead);
         let again = disk.crash(&mut Stood { bytes: b"????????" });
-        assert_eq!(rt; again.bytes(), row_of(calls).reads, "after call {calls}");
+        same_at(calls, again.bytes(), row_of(calls).reads)?;
     }
     Ok(())
 }

@@ -2,6 +2,7 @@
 
 use crate::choosers::Stood;
 use crate::run::{CALLS, Step, device, make, make_first, row_of};
+use alm_common_tests::{same, same_at};
 use alm_disk::{AsRead, Crashable, FuseDisk, OnceDisk};
 use std::test::Fail;
 
@@ -12,14 +13,10 @@ fn a_fuse_serves_so_many_calls_and_then_none(rt: HostRuntime) -> Result<(), Fail
         let mut into = [0; 8];
         for number in 1..=CALLS {
             let served = make(&mut disk, row_of(number).step, &mut into).is_ok();
-            assert_eq!(rt;
-                served,
-                number <= calls,
-                "call {number} of a fuse of {calls}"
-            );
+            same_at((number, calls), served, number <= calls)?;
         }
-        assert_eq!(rt; disk.disk.calls().len() as u64, calls.min(CALLS));
-        assert_eq!(rt; disk.disk.failures(), CALLS.saturating_sub(calls));
+        same(disk.disk.calls().len() as u64, calls.min(CALLS))?;
+        same(disk.disk.failures(), CALLS.saturating_sub(calls))?;
     }
     Ok(())
 }
@@ -30,7 +27,7 @@ fn a_fuse_fails_no_more_after_a_crash(rt: HostRuntime) -> Result<(), Fail> {
         let mut disk = FuseDisk::new(device(rt.alloc(), 20)?, calls);
         let _ = make_first(&mut disk, CALLS);
         let mut disk = disk.crash(&mut AsRead);
-        assert_eq!(rt; make_first(&mut disk, CALLS), 0, "a fuse of {calls}");
+        same_at(calls, make_first(&mut disk, CALLS), 0)?;
     }
     Ok(())
 }
@@ -40,9 +37,9 @@ fn a_blown_fuse_leaves_a_write_pending(rt: HostRuntime) -> Result<(), Fail> {
     let mut disk = FuseDisk::new(device(rt.alloc(), 20)?, 0);
     let mut into = [0; 8];
     assert!(rt; make(&mut disk, Step::Write(2, b"345"), &mut into).is_err());
-    assert_eq!(rt; disk.disk.bytes(), b"abcdefgh".as_slice());
+    same(disk.disk.bytes(), b"abcdefgh".as_slice())?;
     let disk = disk.crash(&mut Stood { bytes: b"????????" });
-    assert_eq!(rt; disk.disk.bytes(), b"ab???fgh".as_slice());
+    same(disk.disk.bytes(), b"ab???fgh".as_slice())?;
     Ok(())
 }
 
@@ -53,10 +50,10 @@ fn one_call_fails_and_the_others_are_served(rt: HostRuntime) -> Result<(), Fail>
         let mut into = [0; 8];
         for number in 1..=CALLS {
             let served = make(&mut disk, row_of(number).step, &mut into).is_ok();
-            assert_eq!(rt; served, number != call, "call {number} where {call} fails");
+            same_at((number, call), served, number != call)?;
         }
         let once = (1..=CALLS).contains(&call);
-        assert_eq!(rt; disk.disk.failures(), if once { 1 } else { 0 });
+        same(disk.disk.failures(), if once { 1 } else { 0 })?;
     }
     Ok(())
 }
@@ -66,7 +63,7 @@ fn a_crash_leaves_the_fault_that_is_to_come(rt: HostRuntime) -> Result<(), Fail>
     for call in 1..=CALLS {
         let disk = OnceDisk::new(device(rt.alloc(), 20)?, call);
         let mut disk = disk.crash(&mut AsRead);
-        assert_eq!(rt; make_first(&mut disk, CALLS), 1, "call {call}");
+        same_at(call, make_first(&mut disk, CALLS), 1)?;
     }
     Ok(())
 }

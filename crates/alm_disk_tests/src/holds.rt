@@ -2,8 +2,8 @@
 
 use crate::counted::Counted;
 use crate::run::{CALLS, device, make_first};
+use alm_common_tests::{same, slot_of};
 use alm_disk::{Free, HeldDisk, Hold};
-use alm_types::Slot;
 use std::sync::Arc;
 use std::sync::atomic::Ordering;
 use std::test::Fail;
@@ -11,16 +11,16 @@ use std::test::Fail;
 #[test]
 fn a_free_device_serves_every_call(rt: HostRuntime) -> Result<(), Fail> {
     let mut disk = HeldDisk::new(device(rt.alloc(), 10)?, Free);
-    assert_eq!(rt; make_first(&mut disk, CALLS), 0);
-    assert_eq!(rt; disk.disk.calls().len(), 10);
+    same(make_first(&mut disk, CALLS), 0)?;
+    same(disk.disk.calls().len(), 10)?;
     Ok(())
 }
 
 #[test]
 fn a_sync_that_is_held_fails_and_reaches_no_device(rt: HostRuntime) -> Result<(), Fail> {
     let mut disk = HeldDisk::new(device(rt.alloc(), 10)?, Counted::new(false));
-    assert_eq!(rt; make_first(&mut disk, CALLS), 3);
-    assert_eq!(rt; disk.disk.calls().len(), 7);
+    same(make_first(&mut disk, CALLS), 3)?;
+    same(disk.disk.calls().len(), 7)?;
     Ok(())
 }
 
@@ -40,14 +40,14 @@ fn a_hold_is_asked_once_a_sync(rt: HostRuntime) -> Result<(), Fail> {
 fn a_hold_is_told_through_its_arc(rt: HostRuntime) -> Result<(), Fail> {
     let hold = Arc::new(rt.alloc(), Counted::new(true))?;
     let mut disk = HeldDisk::new(device(rt.alloc(), 10)?, hold.clone()?);
-    assert_eq!(rt; make_first(&mut disk, CALLS), 0);
+    same(make_first(&mut disk, CALLS), 0)?;
     assert_eq!(rt; hold.asked.load(Ordering::SeqCst), 3, "three syncs");
     for slot in [5, 5, 6] {
-        hold.taken(Slot::new(slot).ok_or("slot")?);
+        hold.taken(slot_of(slot)?);
     }
-    hold.looked(Slot::new(5).ok_or("slot")?);
-    hold.looked(Slot::new(6).ok_or("slot")?);
-    assert_eq!(rt; hold.taken.load(Ordering::SeqCst), 2);
-    assert_eq!(rt; hold.looked.load(Ordering::SeqCst), 1);
+    hold.looked(slot_of(5)?);
+    hold.looked(slot_of(6)?);
+    same(hold.taken.load(Ordering::SeqCst), 2)?;
+    same(hold.looked.load(Ordering::SeqCst), 1)?;
     Ok(())
 }

@@ -1,6 +1,7 @@
 //! Out of memory: run with each allocation refused in turn (`rt try --test --fail-alloc N`), the test of this module passes. One
 //! is refused at most, so what was refused is made the second time: a maker that always gives up doesn't pass.
 
+use alm_common_tests::same;
 use alm_disk::MemDisk;
 use std::alloc::{AllocError, Global};
 use std::test::Fail;
@@ -19,8 +20,8 @@ fn a_large_device_is_made_whole_or_not_at_all(rt: HostRuntime) -> Result<(), Fai
         Ok(disk) => disk,
         Err(_) => large(rt.alloc())?,
     };
-    assert_eq!(rt; disk.bytes().len(), LARGE);
-    assert_eq!(rt; disk.bytes().last(), Some(&7));
-    assert_eq!(rt; disk.failures(), 0);
+    same(disk.bytes().len(), LARGE)?;
+    same(disk.bytes().last(), Some(&7))?;
+    same(disk.failures(), 0)?;
     Ok(())
 }

@@ -2,9 +2,10 @@
 
 use crate::course::{Call, Outcome, Played, play};
 use crate::opened::{Standing, stands_as};
+use alm_common_tests::{moment_of, same, slot_of};
 use alm_flush::{Advance, Fetch, Publishes, Release};
 use alm_seq::{Seal, Take};
-use alm_types::{Action, Moment, Slot, Verdict};
+use alm_types::{Action, Slot, Verdict};
 use std::test::Fail;
 
 /// The smallest device for the worked table, and more calls than are made.
@@ -14,7 +15,7 @@ const CALLS: usize = 64;
 
 /// The clock's action of this number is sealed in a batch of its own, and fetched.
 fn fetched(clock: Slot, number: u64) -> Result<[(Call, Outcome); 4], Fail> {
-    let action = Action::Clock(Moment::new(number).ok_or("moment")?);
+    let action = Action::Clock(moment_of(number)?);
     Ok([
         (Call::Send(clock, action), Outcome::Sent(Some(number))),
         (
@@ -45,7 +46,7 @@ fn committed(clock: Slot) -> [(Call, Outcome); 11] {
 
 #[test]
 fn a_checkpoint_that_is_asked_for_comes_between_two_batches(rt: HostRuntime) -> Result<(), Fail> {
-    let clock = Slot::new(17).ok_or("slot")?;
+    let clock = slot_of(17)?;
     let mut course = Vec::new(rt.alloc());
     course.extend_from_slice(&fetched(clock, 1)?)?;
     course.extend_from_slice(&committed(clock))?;
@@ -61,19 +62,19 @@ fn a_checkpoint_that_is_asked_for_comes_between_two_batches(rt: HostRuntime) -> 
         disk,
         ..
     } = play(rt.alloc(), SIZE, CALLS, &course)?;
-    assert_eq!(rt; differs_at, None);
+    same(differs_at, None)?;
     let wanted = Standing {
         epoch: 2,
         count: 1,
         used: 0,
     };
-    assert_eq!(rt; stands_as(rt.alloc(), disk)?, wanted);
+    same(stands_as(rt.alloc(), disk)?, wanted)?;
     Ok(())
 }
 
 #[test]
 fn a_second_one_leads_back_to_the_first_half(rt: HostRuntime) -> Result<(), Fail> {
-    let clock = Slot::new(17).ok_or("slot")?;
+    let clock = slot_of(17)?;
     let mut course = Vec::new(rt.alloc());
     course.extend_from_slice(&fetched(clock, 1)?)?;
     course.extend_from_slice(&committed(clock))?;
@@ -90,12 +91,12 @@ fn a_second_one_leads_back_to_the_first_half(rt: HostRuntime) -> Result<(), Fail
         count,
         disk,
     } = play(rt.alloc(), SIZE, CALLS, &course)?;
-    assert_eq!(rt; (differs_at, count), (None, 1));
+    same((differs_at, count), (None, 1))?;
     let wanted = Standing {
         epoch: 3,
         count: 1,
         used: 0,
     };
-    assert_eq!(rt; stands_as(rt.alloc(), disk)?, wanted);
+    same(stands_as(rt.alloc(), disk)?, wanted)?;
     Ok(())
 }

@@ -3,11 +3,12 @@
 use crate::course::{Call, Outcome, Played, play_over};
 use crate::opened::{Standing, open_formatted_as, stands_as};
 use alm_codec::Version;
+use alm_common_tests::{moment_of, reading_of, same, slot_of};
 use alm_desk::worked_table;
 use alm_disk::MemDisk;
 use alm_flush::{Advance, Fetch, Release};
 use alm_seq::{Seal, Take};
-use alm_types::{Action, AlarmId, Moment, Reading, Slot, Verdict};
+use alm_types::{Action, AlarmId, Slot, Verdict};
 use std::alloc::Global;
 use std::test::Fail;
 
@@ -45,11 +46,11 @@ fn stored(slot: Slot, action: Action, number: u64) -> [(Call, Outcome); 4] {
 
 /// After two early actions on a device of version 01, the first `steps` of the eight steps that store a priority.
 fn played(alloc: Global, steps: u32) -> Result<Played, Fail> {
-    let clock = Slot::new(17).ok_or("slot")?;
-    let feed = Slot::new(16).ok_or("slot")?;
-    let console = Slot::new(0).ok_or("slot")?;
-    let starts = Action::Clock(Moment::new(1000).ok_or("moment")?);
-    let comes = Action::Value(AlarmId(0), Reading::new(800).ok_or("reading")?);
+    let clock = slot_of(17)?;
+    let feed = slot_of(16)?;
+    let console = slot_of(0)?;
+    let starts = Action::Clock(moment_of(1000)?);
+    let comes = Action::Value(AlarmId(0), reading_of(800)?);
     let mut course = Vec::new(alloc);
     course.extend_from_slice(&sealed(clock, &starts))?;
     course.extend_from_slice(&stored(clock, starts, 1))?;
@@ -84,13 +85,13 @@ fn a_checkpoint_comes_before_the_first_new_action(rt: HostRuntime) -> Result<(),
         disk,
         ..
     } = played(alloc, 4)?;
-    assert_eq!(rt; differs_at, None);
+    same(differs_at, None)?;
     let wanted = Standing {
         epoch: 2,
         count: 2,
         used: 0,
     };
-    assert_eq!(rt; stands_as(alloc, disk)?, wanted);
+    same(stands_as(alloc, disk)?, wanted)?;
     Ok(())
 }
 
@@ -103,7 +104,7 @@ fn the_first_new_action_is_stored_behind_it(rt: HostRuntime) -> Result<(), Fail>
         disk,
         ..
     } = played(alloc, 8)?;
-    assert_eq!(rt; differs_at, None);
+    same(differs_at, None)?;
     let header = [0xa5, 0x41, 0x4c, 0x4d, 0x53, 0x52, 0x56, 0x30, 0x31];
     let head = [
         0xa5, 0, 0, 0, 0, 0, 0, 0, 2, 2, 0, 0, 0, 0, 0, 0, 2, 0, 0, 0, 0, 0, 0, 0x28, 0x6a,
@@ -119,6 +120,6 @@ fn the_first_new_action_is_stored_behind_it(rt: HostRuntime) -> Result<(), Fail>
         count: 3,
         used: 35,
     };
-    assert_eq!(rt; stands_as(alloc, disk)?, wanted);
+    same(stands_as(alloc, disk)?, wanted)?;
     Ok(())
 }

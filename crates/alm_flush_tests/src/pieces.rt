@@ -2,10 +2,11 @@
 
 use crate::course::{Call, Outcome, Played, play_over};
 use crate::opened::{Standing, open_formatted, stands_as};
+use alm_common_tests::{moment_of, same, slot_of};
 use alm_disk::{Call as DiskCall, MemDisk};
 use alm_flush::{Advance, Release};
 use alm_seq::{Seal, Take};
-use alm_types::{Action, Attr, Kind, Moment, Settings, Slot, Table, Verdict};
+use alm_types::{Action, Attr, Kind, Settings, Slot, Table, Verdict};
 use std::alloc::Global;
 use std::test::Fail;
 
@@ -54,7 +55,7 @@ fn played(alloc: Global, course: &[(Call, Outcome)]) -> Result<Played, Fail> {
 
 /// A batch of one action, the first of its number: it is stored in `steps` steps.
 fn stored_in(slot: Slot, number: u64, steps: u64) -> Result<[(Call, Outcome); 7], Fail> {
-    let action = Action::Clock(Moment::new(number).ok_or("moment")?);
+    let action = Action::Clock(moment_of(number)?);
     let verdict = Verdict::Accepted(action);
     Ok([
         (Call::Send(slot, action), Outcome::Sent(Some(number))),
@@ -97,7 +98,7 @@ fn pieces_in(alloc: Global, calls: &[DiskCall]) -> Result<Vec<(u64, u64)>, Fail>
 #[test]
 fn a_piece_goes_out_before_each_commit(rt: HostRuntime) -> Result<(), Fail> {
     let alloc = rt.alloc();
-    let clock = Slot::new(17).ok_or("slot")?;
+    let clock = slot_of(17)?;
     let mut course = opening(alloc, clock)?;
     // Three calls end the checkpoint before the 62nd commit.
     for (number, steps) in [(60, 5), (61, 5), (62, 8)] {
@@ -108,32 +109,32 @@ fn a_piece_goes_out_before_each_commit(rt: HostRuntime) -> Result<(), Fail> {
         disk,
         ..
     } = played(alloc, &course)?;
-    assert_eq!(rt; differs_at, None);
+    same(differs_at, None)?;
     // The run ends with the closed gate after two frames.
-    assert_eq!(rt;
+    same(
         pieces_in(alloc, disk.calls())?.as_slice(),
         [
             (HALF + 1, 65_536),
             (HALF + 65_537, 65_536),
             (HALF + 131_073, 60_641),
         ]
-        .as_slice()
-    );
+        .as_slice(),
+    )?;
     let frame = [0xA5, 0, 0, 0, 0, 0, 0, 0, 2, 0, 0, 0, 0, 0, 0, 0, 62, 0, 1];
-    assert_eq!(rt; disk.bytes().get(THIRD..THIRD + 19), Some(frame.as_slice()));
+    same(disk.bytes().get(THIRD..THIRD + 19), Some(frame.as_slice()))?;
     let wanted = Standing {
         epoch: 2,
         count: 62,
         used: 105,
     };
-    assert_eq!(rt; stands_as(alloc, disk)?, wanted);
+    same(stands_as(alloc, disk)?, wanted)?;
     Ok(())
 }
 
 #[test]
 fn an_open_checkpoint_goes_on_without_a_batch(rt: HostRuntime) -> Result<(), Fail> {
     let alloc = rt.alloc();
-    let mut course = opening(alloc, Slot::new(17).ok_or("slot")?)?;
+    let mut course = opening(alloc, slot_of(17)?)?;
     // Three pieces, a sync, the gate and its sync.
     for _call in 0..6 {
         course.push((Call::Advance, Outcome::Advanced(Advance::More)))?;
@@ -144,12 +145,12 @@ fn an_open_checkpoint_goes_on_without_a_batch(rt: HostRuntime) -> Result<(), Fai
         disk,
         ..
     } = played(alloc, &course)?;
-    assert_eq!(rt; differs_at, None);
+    same(differs_at, None)?;
     let wanted = Standing {
         epoch: 2,
         count: 59,
         used: 0,
     };
-    assert_eq!(rt; stands_as(alloc, disk)?, wanted);
+    same(stands_as(alloc, disk)?, wanted)?;
     Ok(())
 }

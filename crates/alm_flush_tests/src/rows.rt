@@ -1,9 +1,10 @@
 //! The worked rows.
 
 use crate::course::{Call, Outcome, differs_at, open_worked, play};
+use alm_common_tests::{reading_of, same, slot_of};
 use alm_flush::{Advance, Fetch, Publishes, Release};
 use alm_seq::{Seal, Take};
-use alm_types::{Action, AlarmId, Reading, Refusal, Shown, Slot, Verdict};
+use alm_types::{Action, AlarmId, Refusal, Shown, Slot, Verdict};
 use std::alloc::Global;
 use std::test::Fail;
 
@@ -13,7 +14,7 @@ const REFUSED: Verdict = Verdict::Refused(Refusal::NotUnacknowledged, 0);
 
 #[test]
 fn a_refusal_goes_its_way(rt: HostRuntime) -> Result<(), Fail> {
-    let slot = Slot::new(0).ok_or("slot")?;
+    let slot = slot_of(0)?;
     let course = [
         (
             Call::Send(slot, Action::Ack(AlarmId(0))),
@@ -45,13 +46,13 @@ fn a_refusal_goes_its_way(rt: HostRuntime) -> Result<(), Fail> {
             Outcome::Received(Some((1, 0, REFUSED))),
         ),
     ];
-    assert_eq!(rt; differs_at(rt.alloc(), DEVICE, 64, &course)?, None);
+    same(differs_at(rt.alloc(), DEVICE, 64, &course)?, None)?;
     Ok(())
 }
 
 /// How many calls a device has noted after a request, if its batch is committed in `steps` steps.
 fn calls_of(alloc: Global, want: Action, verdict: Verdict, steps: usize) -> Result<usize, Fail> {
-    let slot = Slot::new(16).ok_or("slot")?;
+    let slot = slot_of(16)?;
     let mut course = Vec::from_array(
         alloc,
         [
@@ -76,14 +77,14 @@ fn calls_of(alloc: Global, want: Action, verdict: Verdict, steps: usize) -> Resu
 fn a_batch_of_refusals_makes_no_device_call(rt: HostRuntime) -> Result<(), Fail> {
     let alloc = rt.alloc();
     let opened = open_worked(alloc, DEVICE, 64)?.into_disk().calls().len();
-    let vain = Action::Value(AlarmId(9), Reading::new(0).ok_or("reading")?);
-    let good = Action::Value(AlarmId(0), Reading::new(800).ok_or("reading")?);
+    let vain = Action::Value(AlarmId(9), reading_of(0)?);
+    let good = Action::Value(AlarmId(0), reading_of(800)?);
     let refused = Verdict::Refused(Refusal::NoSuchAlarm, 0);
-    assert_eq!(rt; calls_of(alloc, vain, refused, 1)?, opened);
-    assert_eq!(rt;
+    same(calls_of(alloc, vain, refused, 1)?, opened)?;
+    same(
         calls_of(alloc, good, Verdict::Accepted(good), 4)?,
-        opened.saturating_add(4)
-    );
+        opened.saturating_add(4),
+    )?;
     Ok(())
 }
 
@@ -113,7 +114,7 @@ fn answered(slot: Slot, serial: u64) -> [(Call, Outcome); 4] {
 
 #[test]
 fn the_eighth_seal_finds_no_room(rt: HostRuntime) -> Result<(), Fail> {
-    let slot = Slot::new(3).ok_or("slot")?;
+    let slot = slot_of(3)?;
     let mut course = Vec::new(rt.alloc());
     for serial in 1..=7 {
         course.extend_from_slice(&refused(slot, serial))?;
@@ -128,14 +129,14 @@ fn the_eighth_seal_finds_no_room(rt: HostRuntime) -> Result<(), Fail> {
         course.extend_from_slice(&answered(slot, serial))?;
     }
     course.push((Call::Fetch, Outcome::Fetched(Fetch::Empty)))?;
-    assert_eq!(rt; differs_at(rt.alloc(), DEVICE, 64, &course)?, None);
+    same(differs_at(rt.alloc(), DEVICE, 64, &course)?, None)?;
     Ok(())
 }
 
 #[test]
 fn a_look_shows_what_is_published(rt: HostRuntime) -> Result<(), Fail> {
-    let feed = Slot::new(16).ok_or("slot")?;
-    let high = Reading::new(900).ok_or("reading")?;
+    let feed = slot_of(16)?;
+    let high = reading_of(900)?;
     let course = [
         (
             Call::Send(feed, Action::Value(AlarmId(0), high)),
@@ -160,6 +161,6 @@ fn a_look_shows_what_is_published(rt: HostRuntime) -> Result<(), Fail> {
             Outcome::Received(Some((1, 1, Verdict::Accepted(Action::Value(AlarmId(0), high))))),
         ),
     ];
-    assert_eq!(rt; differs_at(rt.alloc(), DEVICE, 64, &course)?, None);
+    same(differs_at(rt.alloc(), DEVICE, 64, &course)?, None)?;
     Ok(())
 }

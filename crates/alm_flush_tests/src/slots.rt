@@ -6,6 +6,7 @@ ghost use Rattle.alm_rings.specs.Placed.{AreApart, inbox_at, taken_by, released_
 use crate::course::{Call, Outcome, differs_at, open_worked};
 use crate::parts::Parts;
 use alm_board::{Board, PlainTold};
+use alm_common_tests::{moment_of, reading_of, same, slot_of};
 use alm_flush::Release;
 use alm_rings::{Console, Outbox, Receipt, SlotEnds, open_slots};
 use alm_seq::{Seal, Take};
@@ -37,14 +38,14 @@ fn answered(slot: Slot, moment: Moment) -> Verdict {
 
 #[test]
 fn each_slot_gets_its_own(rt: HostRuntime) -> Result<(), Fail> {
-    let moment = Moment::new(1000).ok_or("moment")?;
-    let low = Reading::new(7).ok_or("reading")?;
+    let moment = moment_of(1000)?;
+    let low = reading_of(7)?;
     let mut sends = Vec::new(rt.alloc());
     let mut takes = Vec::new(rt.alloc());
     let mut releases = Vec::new(rt.alloc());
     let mut receives = Vec::new(rt.alloc());
     for number in 0..18 {
-        let slot = Slot::new(17 - number).ok_or("slot")?;
+        let slot = slot_of(17 - number)?;
         sends.push((
             Call::Send(slot, wanted(slot, moment, low)),
             Outcome::Sent(Some(1)),
@@ -68,7 +69,7 @@ fn each_slot_gets_its_own(rt: HostRuntime) -> Result<(), Fail> {
     course.push((Call::Release, Outcome::Released(Release::Nothing)))?;
     course.push((Call::GiveBack, Outcome::GaveBack(true)))?;
     course.extend_from_slice(&receives)?;
-    assert_eq!(rt; differs_at(rt.alloc(), DEVICE, 64, &course)?, None);
+    same(differs_at(rt.alloc(), DEVICE, 64, &course)?, None)?;
     Ok(())
 }
 
@@ -80,7 +81,7 @@ fn a_batch_takes_256_entries(rt: HostRuntime) -> Result<(), Fail> {
     let mut sends = Vec::new(rt.alloc());
     let mut takes = Vec::new(rt.alloc());
     for number in 0..5 {
-        let slot = Slot::new(number).ok_or("slot")?;
+        let slot = slot_of(number)?;
         for serial in 1..=64 {
             sends.push((Call::Send(slot, ACK), Outcome::Sent(Some(serial))))?;
         }
@@ -90,13 +91,13 @@ fn a_batch_takes_256_entries(rt: HostRuntime) -> Result<(), Fail> {
             }
         }
     }
-    let last = Slot::new(4).ok_or("slot")?;
+    let last = slot_of(4)?;
     let mut course = sends;
     course.extend_from_slice(&takes)?;
     course.push((Call::Take(last), Outcome::Took(Take::BatchFull)))?;
     course.push((Call::Seal, Outcome::Sealed(Seal::Sealed)))?;
     course.push((Call::Take(last), judged))?;
-    assert_eq!(rt; differs_at(rt.alloc(), DEVICE, 64, &course)?, None);
+    same(differs_at(rt.alloc(), DEVICE, 64, &course)?, None)?;
     Ok(())
 }
 
@@ -104,9 +105,9 @@ const SECOND_REFUSED: Verdict = Verdict::Refused(Refusal::NotUnacknowledged, 2);
 
 #[test]
 fn the_verdict_is_of_the_actions_before(rt: HostRuntime) -> Result<(), Fail> {
-    let feed = Slot::new(16).ok_or("slot")?;
-    let console = Slot::new(5).ok_or("slot")?;
-    let high = Reading::new(900).ok_or("reading")?;
+    let feed = slot_of(16)?;
+    let console = slot_of(5)?;
+    let high = reading_of(900)?;
     let course = [
         (
             Call::Send(feed, Action::Value(AlarmId(0), high)),
@@ -141,7 +142,7 @@ fn the_verdict_is_of_the_actions_before(rt: HostRuntime) -> Result<(), Fail> {
             Outcome::Received(Some((2, 2, SECOND_REFUSED))),
         ),
     ];
-    assert_eq!(rt; differs_at(rt.alloc(), DEVICE, 64, &course)?, None);
+    same(differs_at(rt.alloc(), DEVICE, 64, &course)?, None)?;
     Ok(())
 }
 
@@ -306,7 +307,7 @@ fn keeps_the_reply(alloc: Global, courses: &Courses) -> Result<bool, AllocError>
 
 #[test]
 fn a_full_ring_keeps_the_reply(rt: HostRuntime) -> Result<(), Fail> {
-    let slot = Slot::new(9).ok_or("slot")?;
+    let slot = slot_of(9)?;
     let courses = Courses {
         filling: filling(rt.alloc(), slot)?,
         full: full(rt.alloc(), slot)?,

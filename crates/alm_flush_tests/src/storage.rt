@@ -2,6 +2,7 @@
 
 use crate::course::{Call, Outcome, Played, play};
 use crate::opened::reopen;
+use alm_common_tests::{moment_of, same, slot_of};
 use alm_disk::{Disk, MemDisk};
 use alm_flush::{Advance, Fetch, Publishes, Release};
 use alm_model::Alarms;
@@ -48,10 +49,10 @@ fn stored(slot: Slot, moment: &Moment, steps: u64) -> [(Call, Outcome); 4] {
 
 #[test]
 fn a_checkpoint_is_opened_where_more_than_half_is_used(rt: HostRuntime) -> Result<(), Fail> {
-    let slot = Slot::new(17).ok_or("slot")?;
+    let slot = slot_of(17)?;
     let mut course = Vec::new(rt.alloc());
     for second in 1..=120 {
-        let moment = Moment::new(second).ok_or("moment")?;
+        let moment = moment_of(second)?;
         // The 59th commit opens a checkpoint of four calls, and the 59th after that one another, which closes a gate first.
         let steps = match second {
             60 => 8,
@@ -68,7 +69,7 @@ fn a_checkpoint_is_opened_where_more_than_half_is_used(rt: HostRuntime) -> Resul
         ..
     } = played;
     let found = reopened(rt.alloc(), disk)?;
-    assert_eq!(rt; (differs_at, found), (None, (120, 3)));
+    same((differs_at, found), (None, (120, 3)))?;
     Ok(())
 }
 
@@ -80,8 +81,8 @@ fn reopened(alloc: Global, disk: MemDisk) -> Result<(u64, u64), AllocError> {
 
 #[test]
 fn what_has_failed_fails_for_good(rt: HostRuntime) -> Result<(), Fail> {
-    let slot = Slot::new(17).ok_or("slot")?;
-    let moment = Moment::new(1).ok_or("moment")?;
+    let slot = slot_of(17)?;
+    let moment = moment_of(1)?;
     let mut course = Vec::new(rt.alloc());
     course.extend_from_slice(&sealed(slot, &moment))?;
     course.extend_from_slice(&[
@@ -99,6 +100,6 @@ fn what_has_failed_fails_for_good(rt: HostRuntime) -> Result<(), Fail> {
     ])?;
     let played = play(rt.alloc(), SMALL, FIRST_CALLS + 2, &course)?;
     let found = (played.differs_at, played.count, played.disk.failures());
-    assert_eq!(rt; found, (None, 0, 1));
+    same(found, (None, 0, 1))?;
     Ok(())
 }

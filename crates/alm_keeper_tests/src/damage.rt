@@ -5,6 +5,7 @@ ghost use Rattle.std.specs.Prelude.{◌<◌};
 use crate::steps::{batch, fresh, stores, worked};
 use crate::worked::{clock, value};
 use alm_checkpoint::{DeviceFault, RestoreFault, recover};
+use alm_common_tests::{same, same_at};
 use alm_disk::{Disk, MemDisk};
 use alm_keeper::{OpenFault, open_store};
 use alm_model::Alarms;
@@ -76,7 +77,7 @@ fn one_changed_byte(rt: HostRuntime) -> Result<(), Fail> {
         put(&mut disk, at, byte);
         let (found, back) = opened(alloc, disk);
         disk = back;
-        assert_eq!(rt; found, wanted, "{at} set to {byte}");
+        same_at((at, byte), found, wanted)?;
         put(&mut disk, at, old);
     }
     Ok(())
@@ -93,7 +94,7 @@ fn two_changed_bytes(rt: HostRuntime) -> Result<(), Fail> {
         put(&mut disk, first.0, first.1);
         put(&mut disk, second.0, second.1);
         let (found, _) = opened(alloc, disk);
-        assert_eq!(rt; found, wanted);
+        same(found, wanted)?;
     }
     Ok(())
 }
@@ -137,26 +138,26 @@ fn dispute(alloc: Global, places: Range<u64>, step: usize) -> Result<Option<u64>
 fn every_byte_of_header_head_and_alarms(rt: HostRuntime) -> Result<(), Fail> {
     let alloc = rt.alloc();
     for (from, to) in [(0, 128), (9_666, 10_394), (14_510, 14_535)] {
-        assert_eq!(rt; dispute(alloc, from..to, 1)?, None);
+        same(dispute(alloc, from..to, 1)?, None)?;
     }
     Ok(())
 }
 
 #[test]
 fn every_byte_of_the_windows(rt: HostRuntime) -> Result<(), Fail> {
-    assert_eq!(rt; dispute(rt.alloc(), 128..9_666, 1)?, None);
+    same(dispute(rt.alloc(), 128..9_666, 1)?, None)?;
     Ok(())
 }
 
 #[test]
 fn every_byte_of_the_segment(rt: HostRuntime) -> Result<(), Fail> {
-    assert_eq!(rt; dispute(rt.alloc(), 10_394..14_510, 1)?, None);
+    same(dispute(rt.alloc(), 10_394..14_510, 1)?, None)?;
     Ok(())
 }
 
 // No reader reads a half that isn't open.
 #[test]
 fn every_eleventh_byte_behind(rt: HostRuntime) -> Result<(), Fail> {
-    assert_eq!(rt; dispute(rt.alloc(), 14_535..28_997, 11)?, None);
+    same(dispute(rt.alloc(), 14_535..28_997, 11)?, None)?;
     Ok(())
 }

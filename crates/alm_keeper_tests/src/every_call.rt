@@ -3,6 +3,7 @@
 use crate::choosers::Left;
 use crate::course::{CALLS, Stored, is_after, judged, play};
 use crate::worked::{SIZE, device};
+use alm_common_tests::{holds_at, same};
 use alm_disk::{Crashable, FuseDisk, MemDisk, OnceDisk};
 use alm_keeper::{OpenFault, open_store};
 use std::alloc::Global;
@@ -83,10 +84,7 @@ fn a_fuse_of_each_length(rt: HostRuntime) -> Result<(), Fail> {
         let stood = synced(alloc, calls)?;
         for number in 0..CHOICES {
             let left = choice(number, &stood);
-            assert!(rt;
-                fused(alloc, calls, left)?,
-                "a fuse of {calls}, choice {number}"
-            );
+            holds_at((calls, number), fused(alloc, calls, left)?)?;
         }
     }
     Ok(())
@@ -99,10 +97,7 @@ fn one_fault_in_each_call(rt: HostRuntime) -> Result<(), Fail> {
         let stood = synced(alloc, calls)?;
         for number in 0..CHOICES {
             let left = choice(number, &stood);
-            assert!(rt;
-                faulted(alloc, calls, left)?,
-                "a fault after {calls}, choice {number}"
-            );
+            holds_at((calls, number), faulted(alloc, calls, left)?)?;
         }
     }
     Ok(())
@@ -115,7 +110,7 @@ fn the_first_sync_of_a_formatting(rt: HostRuntime) -> Result<(), Fail> {
         let (done, disk) = play(alloc, FuseDisk::new(device(alloc, SIZE)?, calls))?;
         assert!(rt; !done);
         let (stored, _) = found(alloc, disk.crash(&mut Left::Every(0x00)))?;
-        assert_eq!(rt; stored, None);
+        same(stored, None)?;
     }
     Ok(())
 }

@@ -3,6 +3,7 @@
 use crate::choosers::Left;
 use crate::worked::{SIZE, device, table};
 use alm_codec::Version;
+use alm_common_tests::{same, same_at};
 use alm_disk::{Call, Chooser, Crashable, Disk, FuseDisk, MemDisk, OnceDisk};
 use alm_keeper::{FormatFault, OpenFault, format, format_as, open_store};
 use std::alloc::Global;
@@ -59,8 +60,8 @@ fn a_fuse_of_fewer_than_ten_calls(rt: HostRuntime) -> Result<(), Fail> {
     let alloc = rt.alloc();
     for calls in 0..10 {
         let (fault, disk) = burnt(alloc, calls)?;
-        assert_eq!(rt; fault, Some(FormatFault::Disk), "a fuse of {calls}");
-        assert_eq!(rt; disk.disk.calls().len() as u64, calls);
+        same_at(calls, fault, Some(FormatFault::Disk))?;
+        same(disk.disk.calls().len() as u64, calls)?;
         if calls >= 2 {
             let read = opens(alloc, disk, &mut Left::AsRead);
             let wanted = if calls == 9 {
@@ -68,19 +69,15 @@ fn a_fuse_of_fewer_than_ten_calls(rt: HostRuntime) -> Result<(), Fail> {
             } else {
                 Err(OpenFault::Unformatted)
             };
-            assert_eq!(rt; read, wanted, "a fuse of {calls}");
+            same_at(calls, read, wanted)?;
         }
         for byte in [0x00, 0x5A, 0xA5, 0xFF] {
             let (_, disk) = burnt(alloc, calls)?;
             let left = opens(alloc, disk, &mut Left::Every(byte));
             if calls >= 8 && byte == 0xA5 {
-                assert_eq!(rt; left, Ok(0), "a fuse of {calls}");
+                same_at(calls, left, Ok(0))?;
             } else if calls >= 2 {
-                assert_eq!(rt;
-                    left,
-                    Err(OpenFault::Unformatted),
-                    "a fuse of {calls}, {byte}"
-                );
+                same_at((calls, byte), left, Err(OpenFault::Unformatted))?;
             }
         }
     }
@@ -91,8 +88,8 @@ fn a_fuse_of_fewer_than_ten_calls(rt: HostRuntime) -> Result<(), Fail> {
 fn a_fuse_of_ten_calls(rt: HostRuntime) -> Result<(), Fail> {
     let alloc = rt.alloc();
     let (fault, disk) = burnt(alloc, 10)?;
-    assert_eq!(rt; fault, None);
-    assert_eq!(rt; opens(alloc, disk, &mut Left::Every(0x5A)), Ok(0));
+    same(fault, None)?;
+    same(opens(alloc, disk, &mut Left::Every(0x5A)), Ok(0))?;
     Ok(())
 }
 
@@ -101,11 +98,11 @@ fn one_fault(rt: HostRuntime) -> Result<(), Fail> {
     let alloc = rt.alloc();
     for call in 1..=10 {
         let (fault, disk) = faulted(alloc, call)?;
-        assert_eq!(rt; fault, Some(FormatFault::Disk), "a fault in call {call}");
-        assert_eq!(rt; disk.disk.calls().len() as u64, call - 1);
+        same_at(call, fault, Some(FormatFault::Disk))?;
+        same(disk.disk.calls().len() as u64, call - 1)?;
         if call >= 3 {
             let left = opens(alloc, disk, &mut Left::Every(0x00));
-            assert_eq!(rt; left, Err(OpenFault::Unformatted), "a fault in call {call}");
+            same_at(call, left, Err(OpenFault::Unformatted))?;
         }
     }
     Ok(())
@@ -135,23 +132,20 @@ fn the_calls_and_the_bytes(rt: HostRuntime) -> Result<(), Fail> {
         Call::Write { at: 0, length: 1 },
         Call::Sync,
     ];
-    assert_eq!(rt; disk.calls(), calls.as_slice());
+    same(disk.calls(), calls.as_slice())?;
     let start = [
         0xa5, 0x41, 0x4c, 0x4d, 0x53, 0x52, 0x56, 0x30, 0x32, 0, 0, 0, 4, 0, 2, 0, 0, 0, 0, 0, 0,
         0x10, 0x14, 0xa5, 0, 0, 0, 0, 0, 0, 0, 1, 2, 0, 0, 0, 0, 0, 0, 0, 0, 0, 0, 0, 0, 0, 0x28,
         0x6a,
     ];
-    assert_eq!(rt; disk.bytes().get(..48), Some(start.as_slice()));
+    same(disk.bytes().get(..48), Some(start.as_slice()))?;
     // The segment's first gate is closed, and all after it is as before; so is the other half, except for its gate.
-    assert_eq!(rt;
-        disk.bytes().get(10_394..10_396),
-        Some([0, 0xa5].as_slice())
-    );
-    assert_eq!(rt;
+    same(disk.bytes().get(10_394..10_396), Some([0, 0xa5].as_slice()))?;
+    same(
         disk.bytes().get(14_509..14_512),
-        Some([0xa5, 0, 0xa5].as_slice())
-    );
-    assert_eq!(rt; epoch(alloc, disk), Ok(1));
+        Some([0xa5, 0, 0xa5].as_slice()),
+    )?;
+    same(epoch(alloc, disk), Ok(1))?;
     Ok(())
 }
 
@@ -166,8 +160,8 @@ fn the_bytes_of_version_01(rt: HostRuntime) -> Result<(), Fail> {
         0x10, 0x14, 0xa5, 0, 0, 0, 0, 0, 0, 0, 1, 0, 0, 0, 0, 0, 0, 0, 0, 0, 0, 0, 0, 0, 0, 0x28,
         0x6a,
     ];
-    assert_eq!(rt; disk.bytes().get(..48), Some(start.as_slice()));
-    assert_eq!(rt; epoch(alloc, disk), Ok(1));
+    same(disk.bytes().get(..48), Some(start.as_slice()))?;
+    same(epoch(alloc, disk), Ok(1))?;
     Ok(())
 }
 
@@ -182,11 +176,11 @@ fn the_bytes_of_version_03(rt: HostRuntime) -> Result<(), Fail> {
         0x10, 0x14, 0xa5, 0, 0, 0, 0, 0, 0, 0, 1, 0xfd, 0, 0, 0, 0, 0, 0, 0, 0xa0, 0x9e, 0xb7,
         0xcb, 0xd0, 0xa2, 0xc8, 0xdd,
     ];
-    assert_eq!(rt; disk.bytes().get(..48), Some(start.as_slice()));
+    same(disk.bytes().get(..48), Some(start.as_slice()))?;
     // The gate of the first frame, and that of the second half.
-    assert_eq!(rt; disk.bytes().get(10_394..10_395), Some([0x5a].as_slice()));
-    assert_eq!(rt; disk.bytes().get(14_510..14_511), Some([0x5a].as_slice()));
-    assert_eq!(rt; epoch(alloc, disk), Ok(1));
+    same(disk.bytes().get(10_394..10_395), Some([0x5a].as_slice()))?;
+    same(disk.bytes().get(14_510..14_511), Some([0x5a].as_slice()))?;
+    same(epoch(alloc, disk), Ok(1))?;
     Ok(())
 }
 
@@ -196,9 +190,9 @@ fn a_device_that_is_too_small(rt: HostRuntime) -> Result<(), Fail> {
     match format(alloc, device(alloc, SIZE - 1)?, &table(alloc)?) {
         Ok(_) => return Err(Fail::new("formatted")),
         Err((fault, disk)) => {
-            assert_eq!(rt; fault, FormatFault::TooSmall);
+            same(fault, FormatFault::TooSmall)?;
             assert!(rt; disk.calls().is_empty());
-            assert_eq!(rt; disk.bytes().len(), SIZE - 1);
+            same(disk.bytes().len(), SIZE - 1)?;
             assert!(rt; disk.bytes().iter().all(|byte| *byte == 0xA5));
         }
     }

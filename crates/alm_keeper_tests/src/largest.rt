@@ -2,6 +2,7 @@
 
 use crate::pieces::{stores_next, table_in, zeros};
 use crate::steps::open;
+use alm_common_tests::same_at;
 use alm_disk::Disk;
 use alm_keeper::{Keeper, format};
 use alm_model::Alarms;
@@ -50,11 +51,7 @@ fn devices_of_many_alarms_keep_what_is_stored(rt: HostRuntime) -> Result<(), Fai
     let alloc = rt.alloc();
     for (rows, areas, size) in DEVICES {
         let found = held(alloc, zeros(alloc, size)?, (rows, areas))?;
-        assert_eq!(rt;
-            found,
-            (rows as usize, areas as usize, 1, 1),
-            "{rows} alarms"
-        );
+        same_at(rows, found, (rows as usize, areas as usize, 1, 1))?;
     }
     Ok(())
 }

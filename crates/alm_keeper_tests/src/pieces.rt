@@ -4,6 +4,7 @@ use crate::choosers::Left;
 use crate::course::{Part, Stored};
 use crate::steps::{advance, batch, begin, open, stores};
 use crate::worked::clock;
+use alm_common_tests::{holds_at, same, same_at};
 use alm_disk::{Call, Crashable, Disk, FuseDisk, MemDisk, OnceDisk};
 use alm_keeper::{Keeper, Phase, Progress, Refused, format, open_store};
 use alm_types::{Attr, Kind, Settings, Table};
@@ -144,16 +145,16 @@ fn a_commit_between_two_pieces(rt: HostRuntime) -> Result<(), Fail> {
             count,
             used,
         };
-        assert_eq!(rt; told, row);
+        same(told, row)?;
     }
     let head = [0xA5, 0, 0, 0, 0, 0, 0, 0, 2, 2, 0, 0, 0, 0, 0, 0, 1];
-    assert_eq!(rt; disk.bytes().get(HALF..HALF + 17), Some(head.as_slice()));
+    same(disk.bytes().get(HALF..HALF + 17), Some(head.as_slice()))?;
     let frame = [0xA5, 0, 0, 0, 0, 0, 0, 0, 2, 0, 0, 0, 0, 0, 0, 0, 2, 0, 1];
-    assert_eq!(rt;
+    same(
         disk.bytes().get(SEGMENT..SEGMENT + 19),
-        Some(frame.as_slice())
-    );
-    assert_eq!(rt; disk.bytes().get(SEGMENT + 35), Some(&0));
+        Some(frame.as_slice()),
+    )?;
+    same(disk.bytes().get(SEGMENT + 35), Some(&0))?;
     Ok(())
 }
 
@@ -174,7 +175,7 @@ fn a_crash_as_the_gate_is_opened(rt: HostRuntime) -> Result<(), Fail> {
         let done = opens_the_gate(alloc, &mut keeper);
         let stood = standing(alloc, keeper.into_disk().crash(&mut Left::Every(byte)));
         assert!(rt; done?);
-        assert_eq!(rt; stood, Some((epoch, 2)), "{byte}");
+        same_at(byte, stood, Some((epoch, 2)))?;
     }
     Ok(())
 }
@@ -191,15 +192,15 @@ fn a_mark_counts_anew(rt: HostRuntime) -> Result<(), Fail> {
     let counted = shown(&keeper, second);
     let disk = keeper.into_disk();
     let writes = disk.calls().last().copied();
-    assert_eq!(rt; (marked.done, marked.written), (true, 0));
-    assert_eq!(rt; (counted.done, counted.written), (true, 65_536));
-    assert_eq!(rt;
+    same((marked.done, marked.written), (true, 0))?;
+    same((counted.done, counted.written), (true, 65_536))?;
+    same(
         writes,
         Some(Call::Write {
             at: HALF as u64 + 1 + 65_536,
-            length: 65_536
-        })
-    );
+            length: 65_536,
+        }),
+    )?;
     Ok(())
 }
 
@@ -323,10 +324,7 @@ fn a_fuse_of_each_length(rt: HostRuntime) -> Result<(), Fail> {
     let alloc = rt.alloc();
     for calls in BEFORE..=BEFORE + CALLS {
         for byte in [0x00, 0xA5] {
-            assert!(rt;
-                fused(alloc, calls, Left::Every(byte))?,
-                "a fuse of {calls}, and each pending byte {byte}"
-            );
+            holds_at((calls, byte), fused(alloc, calls, Left::Every(byte))?)?;
         }
     }
     Ok(())
@@ -337,10 +335,7 @@ fn each_call_that_fails_alone(rt: HostRuntime) -> Result<(), Fail> {
     let alloc = rt.alloc();
     for calls in BEFORE..BEFORE + CALLS {
         for byte in [0x00, 0xA5] {
-            assert!(rt;
-                failed_once(alloc, calls, Left::Every(byte))?,
-                "the call behind {calls} fails, and each pending byte is {byte}"
-            );
+            holds_at((calls, byte), failed_once(alloc, calls, Left::Every(byte))?)?;
         }
     }
     Ok(())

@@ -2,6 +2,7 @@
 //! is refused at most, so what was refused is made the second time: a maker that always gives up doesn't pass.
 
 use crate::worked::{SIZE, try_device, try_table};
+use alm_common_tests::same;
 use alm_disk::{Call, MemDisk};
 use alm_keeper::{FormatFault, OpenFault, format, open_store};
 use std::alloc::Global;
@@ -21,8 +22,8 @@ fn formatted(alloc: Global) -> Option<(Option<FormatFault>, usize)> {
 fn a_formatting_without_memory_makes_no_call(rt: HostRuntime) -> Result<(), Fail> {
     let first = formatted(rt.alloc());
     if let Some((Some(fault), calls)) = first {
-        assert_eq!(rt; fault, FormatFault::OutOfMemory);
-        assert_eq!(rt; calls, 0);
+        same(fault, FormatFault::OutOfMemory)?;
+        same(calls, 0)?;
     }
     let whole = match first {
         Some((None, calls)) => Some((None, calls)),
@@ -61,11 +62,11 @@ fn an_opening_without_memory_writes_nothing(rt: HostRuntime) -> Result<(), Fail>
     let keeper = match open_store(alloc, disk) {
         Ok(keeper) => keeper,
         Err((fault, disk)) => {
-            assert_eq!(rt; fault, OpenFault::OutOfMemory);
-            assert_eq!(rt; writes(&disk), before);
+            same(fault, OpenFault::OutOfMemory)?;
+            same(writes(&disk), before)?;
             open_store(alloc, disk).map_err(|_| "refused twice")?
         }
     };
-    assert_eq!(rt; writes(&keeper.into_disk()), before);
+    same(writes(&keeper.into_disk()), before)?;
     Ok(())
 }

@@ -3,6 +3,7 @@
 use crate::choosers::Left;
 use crate::steps::{advance, batch, batch_of, begin, copies, fresh, open, refused, stores, worked};
 use crate::worked::{SIZE, ack, clock, device, value};
+use alm_common_tests::{same, same_at};
 use alm_disk::{Crashable, FuseDisk, MemDisk, OnceDisk};
 use alm_keeper::{Keeper, OpenFault, Phase, Progress, Refused, open_store};
 use alm_types::{Batch, Verdict};
@@ -40,7 +41,7 @@ fn the_bytes_of_two_commits(rt: HostRuntime) -> Result<(), Fail> {
         0, 0, 0, 0, 3, 0xe8, 0xa5, 0, 0, 0, 0, 0, 0, 0, 1, 0, 0, 0, 0, 0, 0, 0, 2, 0, 1, 2, 0, 0,
         0, 0, 0, 0, 0, 0, 0, 0, 0, 0, 0, 3, 0x20, 0,
     ];
-    assert_eq!(rt; disk.bytes().get(10_394..10_465), Some(frames.as_slice()));
+    same(disk.bytes().get(10_394..10_465), Some(frames.as_slice()))?;
     Ok(())
 }
 
@@ -64,8 +65,8 @@ fn a_crash_after_each_call_of_a_commit(rt: HostRuntime) -> Result<(), Fail> {
         let begun = begin(&mut keeper, &batch);
         advance(&mut keeper, calls);
         let found = reopened(alloc, keeper, &mut Left::Every(gate))?;
-        assert_eq!(rt; begun, Some(Ok(())));
-        assert_eq!(rt; found, (count, 1), "{calls} calls, {gate}");
+        same(begun, Some(Ok(())))?;
+        same_at((calls, gate), found, (count, 1))?;
     }
     Ok(())
 }
@@ -83,7 +84,7 @@ fn a_batch_that_does_not_come_next(rt: HostRuntime) -> Result<(), Fail> {
         let mut keeper = three(alloc)?;
         let begun = begin(&mut keeper, &batch);
         drop(keeper);
-        assert_eq!(rt; begun, Some(answer), "from {first}");
+        same_at(first, begun, Some(answer))?;
     }
     Ok(())
 }
@@ -111,8 +112,8 @@ fn a_batch_while_another_is_committed(rt: HostRuntime) -> Result<(), Fail> {
         let told = asked_again(&mut keeper, &batch, calls);
         let found = (keeper.count(), keeper.phase());
         drop(keeper);
-        assert_eq!(rt; told, (true, true, Progress::Done), "{calls} calls");
-        assert_eq!(rt; found, (5, Phase::Idle), "{calls} calls");
+        same_at(calls, told, (true, true, Progress::Done))?;
+        same_at(calls, found, (5, Phase::Idle))?;
     }
     Ok(())
 }
@@ -139,8 +140,8 @@ fn a_batch_that_is_not_accepted(rt: HostRuntime) -> Result<(), Fail> {
     let mut keeper = three(alloc)?;
     let refused = torn(&mut keeper, &next, &vain);
     let found = reopened(alloc, keeper, &mut Left::AsRead)?;
-    assert_eq!(rt; refused, (true, true, true));
-    assert_eq!(rt; found, (5, 1));
+    same(refused, (true, true, true))?;
+    same(found, (5, 1))?;
     Ok(())
 }
 
@@ -163,11 +164,7 @@ fn faulted(alloc: Global, call: u64) -> Result<(Progress, bool, u64), Fail> {
 fn a_fault_in_each_call_of_a_commit(rt: HostRuntime) -> Result<(), Fail> {
     let alloc = rt.alloc();
     for (call, count) in [(1, 3), (2, 3), (3, 3), (4, 5)] {
-        assert_eq!(rt;
-            faulted(alloc, call)?,
-            (Progress::Failed, true, count),
-            "call {call}"
-        );
+        same_at(call, faulted(alloc, call)?, (Progress::Failed, true, count))?;
     }
     Ok(())
 }
@@ -180,7 +177,7 @@ fn a_device_that_was_not_zero(rt: HostRuntime) -> Result<(), Fail> {
     let stored = stores(&mut keeper, &first);
     let found = reopened(alloc, keeper, &mut Left::AsRead)?;
     assert!(rt; stored);
-    assert_eq!(rt; found, (1, 1));
+    same(found, (1, 1))?;
     Ok(())
 }
 
@@ -201,8 +198,8 @@ fn a_crash_in_the_first_call_of_a_second_checkpoint(rt: HostRuntime) -> Result<(
         let phase = keeper.phase();
         let _made = advance(&mut keeper, 1);
         let found = reopened(alloc, keeper, &mut Left::Every(byte))?;
-        assert_eq!(rt; phase, Phase::Copying);
-        assert_eq!(rt; found, (1, 2), "{byte}");
+        same(phase, Phase::Copying)?;
+        same_at(byte, found, (1, 2))?;
     }
     Ok(())
 }
@@ -223,7 +220,7 @@ fn the_room_for_a_frame(rt: HostRuntime) -> Result<(), Fail> {
     let mut keeper = fresh(alloc)?;
     let rooms = rooms(&mut keeper, &first);
     drop(keeper);
-    assert_eq!(rt; rooms, [true, true, false, true]);
+    same(rooms, [true, true, false, true])?;
     Ok(())
 }
 
@@ -242,6 +239,6 @@ fn unopened(alloc: Global, disk: FuseDisk<MemDisk>) -> Option<(OpenFault, usize)
 fn a_first_sync_that_fails(rt: HostRuntime) -> Result<(), Fail> {
     let alloc = rt.alloc();
     let found = unopened(alloc, FuseDisk::new(device(alloc, SIZE)?, 0));
-    assert_eq!(rt; found, Some((OpenFault::Disk, SIZE)));
+    same(found, Some((OpenFault::Disk, SIZE)))?;
     Ok(())
 }

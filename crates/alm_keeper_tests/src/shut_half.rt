@@ -5,6 +5,7 @@ use crate::damage::{damaged, opened, put};
 use crate::steps::{advance, batch, copies, open, stores, worked};
 use crate::worked::{SIZE, clock, device, table, value};
 use alm_codec::Version;
+use alm_common_tests::{same, same_at};
 use alm_disk::{Crashable, MemDisk};
 use alm_keeper::{Keeper, Progress, format_as};
 use std::alloc::Global;
@@ -44,9 +45,9 @@ fn one_gate_is_open_after_a_checkpoint(rt: HostRuntime) -> Result<(), Fail> {
     let mut keeper = open(alloc, disk)?;
     let twice = copies(&mut keeper);
     let disk = keeper.into_disk();
-    assert_eq!(rt; [once, twice], [true, true]);
-    assert_eq!(rt; then, [Some(0x5A), Some(0xA5)]);
-    assert_eq!(rt; gates(&disk), [Some(0xA5), Some(0x5A)]);
+    same([once, twice], [true, true])?;
+    same(then, [Some(0x5A), Some(0xA5)])?;
+    same(gates(&disk), [Some(0xA5), Some(0x5A)])?;
     Ok(())
 }
 
@@ -66,12 +67,12 @@ fn another_checkpoint_comes_first_if_both_are_open(rt: HostRuntime) -> Result<()
     let after = (keeper.epoch(), keeper.takes(&next));
     let stored = stores(&mut keeper, &next);
     let disk = keeper.into_disk();
-    assert_eq!(rt; [begun, again, stored], [true, true, true]);
-    assert_eq!(rt; more, Progress::More);
-    assert_eq!(rt; both, [Some(0xA5), Some(0xA5)]);
-    assert_eq!(rt; found, (1, 2, false));
-    assert_eq!(rt; after, (3, true));
-    assert_eq!(rt; gates(&disk), [Some(0xA5), Some(0x5A)]);
+    same([begun, again, stored], [true, true, true])?;
+    same(more, Progress::More)?;
+    same(both, [Some(0xA5), Some(0xA5)])?;
+    same(found, (1, 2, false))?;
+    same(after, (3, true))?;
+    same(gates(&disk), [Some(0xA5), Some(0x5A)])?;
     Ok(())
 }
 
@@ -82,18 +83,18 @@ fn a_damaged_gate_of_either_half_hides_nothing(rt: HostRuntime) -> Result<(), Fa
     let copied = copies(&mut keeper);
     let stored = stores(&mut keeper, &batch(alloc, 2, &[value(0, 800)])?);
     let mut disk = keeper.into_disk();
-    assert_eq!(rt; [copied, stored], [true, true]);
+    same([copied, stored], [true, true])?;
     for bit in 0..8u8 {
         put(&mut disk, SECOND, 0xA5 ^ (1 << bit));
         let (found, back) = opened(alloc, disk);
         disk = back;
-        assert_eq!(rt; found, damaged(2, 23), "{bit}");
+        same_at(bit, found, damaged(2, 23))?;
         put(&mut disk, SECOND, 0xA5);
         put(&mut disk, FIRST, 0x5A ^ (1 << bit));
         let keeper = open(alloc, disk)?;
         let count = keeper.count();
         disk = keeper.into_disk();
-        assert_eq!(rt; count, 2, "{bit}");
+        same_at(bit, count, 2)?;
         put(&mut disk, FIRST, 0x5A);
     }
     Ok(())

@@ -5,6 +5,7 @@ use crate::damage::{damaged, opened, put};
 use crate::steps::{advance, batch, begin, copies, open, stores, worked};
 use crate::worked::{SIZE, clock, device, table, value};
 use alm_codec::Version;
+use alm_common_tests::same;
 use alm_disk::{Crashable, MemDisk};
 use alm_keeper::{Keeper, format_as};
 use alm_types::{Action, AlarmId, Batch};
@@ -44,18 +45,18 @@ fn a_checkpoint_before_a_new_kind(rt: HostRuntime) -> Result<(), Fail> {
     let after = keeper.takes(&next);
     let stored = stores(&mut keeper, &next);
     let disk = keeper.into_disk();
-    assert_eq!(rt; [before, copied, after, stored], [false, true, true, true]);
+    same([before, copied, after, stored], [false, true, true, true])?;
     let name = *b"ALMSRV01";
-    assert_eq!(rt; disk.bytes().get(1..9), Some(name.as_slice()));
+    same(disk.bytes().get(1..9), Some(name.as_slice()))?;
     let head = [
         0xa5, 0, 0, 0, 0, 0, 0, 0, 2, 2, 0, 0, 0, 0, 0, 0, 2, 0, 0, 0, 0, 0, 0, 0x28, 0x6a,
     ];
-    assert_eq!(rt; disk.bytes().get(14_510..14_535), Some(head.as_slice()));
+    same(disk.bytes().get(14_510..14_535), Some(head.as_slice()))?;
     let frame = [
         0xa5, 0, 0, 0, 0, 0, 0, 0, 2, 0, 0, 0, 0, 0, 0, 0, 3, 0, 1, 9, 0, 0, 0, 0, 0, 0, 0, 0, 0,
         0, 0, 0, 0, 0, 3, 0,
     ];
-    assert_eq!(rt; disk.bytes().get(24_881..24_917), Some(frame.as_slice()));
+    same(disk.bytes().get(24_881..24_917), Some(frame.as_slice()))?;
     Ok(())
 }
 
@@ -73,9 +74,9 @@ fn crashes_of_the_first_checkpoint(rt: HostRuntime) -> Result<(), Fail> {
     let keeper = open(alloc, keeper.into_disk().crash(&mut Left::Every(0)))?;
     let stored = (keeper.count(), keeper.epoch());
     drop(keeper);
-    assert_eq!(rt; found, (2, 2));
-    assert_eq!(rt; begun, Some(Ok(())));
-    assert_eq!(rt; stored, (3, 2));
+    same(found, (2, 2))?;
+    same(begun, Some(Ok(())))?;
+    same(stored, (3, 2))?;
     Ok(())
 }
 
@@ -86,7 +87,7 @@ fn a_new_kind_in_an_old_half(rt: HostRuntime) -> Result<(), Fail> {
     put(&mut disk, 10_413, 9);
     let (found, disk) = opened(alloc, disk);
     drop(disk);
-    assert_eq!(rt; found, damaged(0, 10_413));
+    same(found, damaged(0, 10_413))?;
     Ok(())
 }
 
@@ -99,18 +100,18 @@ fn a_checkpoint_of_version_03(rt: HostRuntime) -> Result<(), Fail> {
     let copied = copies(&mut keeper);
     let stored = stores(&mut keeper, &next);
     let disk = keeper.into_disk();
-    assert_eq!(rt; [before, copied, stored], [true, true, true]);
+    same([before, copied, stored], [true, true, true])?;
     let name = *b"ALMSRV03";
-    assert_eq!(rt; disk.bytes().get(1..9), Some(name.as_slice()));
+    same(disk.bytes().get(1..9), Some(name.as_slice()))?;
     let head = [
         0xa5, 0, 0, 0, 0, 0, 0, 0, 2, 0xfd, 0, 0, 0, 0, 0, 0, 2, 0x79, 0x62, 0x41, 0x2f, 0xb5,
         0x4b, 0x67, 0xee,
     ];
-    assert_eq!(rt; disk.bytes().get(14_510..14_535), Some(head.as_slice()));
+    same(disk.bytes().get(14_510..14_535), Some(head.as_slice()))?;
     let keeper = open(alloc, disk)?;
     let found = (keeper.count(), keeper.epoch());
     drop(keeper);
-    assert_eq!(rt; found, (3, 2));
+    same(found, (3, 2))?;
     Ok(())
 }
 
@@ -121,7 +122,7 @@ fn a_half_of_version_02_under_version_03(rt: HostRuntime) -> Result<(), Fail> {
     put(&mut disk, 32, 2);
     let (found, disk) = opened(alloc, disk);
     drop(disk);
-    assert_eq!(rt; found, damaged(0, 32));
+    same(found, damaged(0, 32))?;
     Ok(())
 }
 
@@ -134,17 +135,17 @@ fn a_copy_in_another_version(rt: HostRuntime) -> Result<(), Fail> {
     };
     drop(keeper);
     let name = *b"ALMSRV03";
-    assert_eq!(rt; copy.bytes().get(1..9), Some(name.as_slice()));
+    same(copy.bytes().get(1..9), Some(name.as_slice()))?;
     let head = [
         0xa5, 0, 0, 0, 0, 0, 0, 0, 1, 0xfd, 0, 0, 0, 0, 0, 0, 2, 0x79, 0x62, 0x41, 0x2f, 0xe9,
         0x37, 0x52, 0xac,
     ];
-    assert_eq!(rt; copy.bytes().get(23..48), Some(head.as_slice()));
+    same(copy.bytes().get(23..48), Some(head.as_slice()))?;
     let mut keeper = open(alloc, copy)?;
     let found = (keeper.count(), keeper.epoch());
     let stored = stores(&mut keeper, &priority(alloc)?);
     drop(keeper);
-    assert_eq!(rt; found, (2, 1));
+    same(found, (2, 1))?;
     assert!(rt; stored);
     Ok(())
 }

@@ -4,6 +4,7 @@ ghost use Rattle.std.specs.Prelude.{◌<◌};
 
 use crate::pair::{FAMILIES, Pair};
 use crate::plain;
+use alm_common_tests::holds_at;
 use std::test::Fail;
 
 const NODES: u32 = 12;
@@ -90,14 +91,8 @@ fn drawn_calls_make_the_lists_of_plain_vectors(rt: HostRuntime) -> Result<(), Fa
         } else {
             call(&mut chains, &mut second, family, seed, &keys)?;
         }
-        assert!(rt;
-            are_same(&chains, 0, &first),
-            "first family after call {turn}"
-        );
-        assert!(rt;
-            are_same(&chains, 1, &second),
-            "second family after call {turn}"
-        );
+        holds_at(turn, are_same(&chains, 0, &first))?;
+        holds_at(turn, are_same(&chains, 1, &second))?;
         if turn % 1000 == 999 {
             chains = chains.copy(alloc)?;
         }

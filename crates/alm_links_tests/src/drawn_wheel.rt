@@ -2,6 +2,7 @@
 
 use crate::drawn_chains::{below, random};
 use crate::shelves::Shelves;
+use alm_common_tests::{holds_at, same_at};
 use std::alloc::{AllocError, Global};
 use std::test::Fail;
 
@@ -45,17 +46,17 @@ fn drawn_questions_are_answered_by_the_sorted_filter(rt: HostRuntime) -> Result<
         seed = random(seed);
         let node = below(seed, 40, NODES);
         if !wheel.put(node, moment(seed)) {
-            assert!(rt; wheel.remove(node), "call {turn}");
+            holds_at(turn, wheel.remove(node))?;
         }
         seed = random(seed);
         let from = moment(seed);
         seed = random(seed);
         let to = moment(seed);
-        assert_eq!(rt;
+        same_at(
+            (from, to, turn),
             wheel.due(alloc, from, to)?.as_slice(),
             due(alloc, &wheel, from, to)?.as_slice(),
-            "{from} {to} at {turn}"
-        );
+        )?;
         if turn % 500 == 499 {
             wheel = wheel.copy(alloc)?;
         }

@@ -2,6 +2,7 @@
 
 use crate::pair::Pair;
 use crate::shelves::Shelves;
+use alm_common_tests::same;
 use std::test::Fail;
 
 #[test]
@@ -31,7 +32,7 @@ fn a_node_in_no_list_has_no_neighbours(rt: HostRuntime) -> Result<(), Fail> {
         assert!(rt; chains.push_back(0, 0, node));
     }
     assert!(rt; chains.unlink(0, 1));
-    assert_eq!(rt; chains.beside(0, 1), Some((None, None)));
-    assert_eq!(rt; chains.beside(0, 0), Some((None, Some(2))));
+    same(chains.beside(0, 1), Some((None, None)))?;
+    same(chains.beside(0, 0), Some((None, Some(2))))?;
     Ok(())
 }

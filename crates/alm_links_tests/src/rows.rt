@@ -2,6 +2,7 @@
 
 use crate::pair::Pair;
 use crate::shelves::Shelves;
+use alm_common_tests::{same, same_at};
 use std::test::Fail;
 
 const LAST_MOMENT: u64 = (1 << 40) - 1;
@@ -15,8 +16,8 @@ fn a_node_goes_before_another_and_the_first_leaves(rt: HostRuntime) -> Result<()
     assert!(rt; chains.is_list(0, 0, &[3, 4, 1]));
     assert!(rt; chains.unlink(0, 3));
     assert!(rt; chains.is_list(0, 0, &[4, 1]));
-    assert_eq!(rt; chains.beside(0, 4), Some((None, Some(1))));
-    assert_eq!(rt; chains.list_of(0, 3), None);
+    same(chains.beside(0, 4), Some((None, Some(1))))?;
+    same(chains.list_of(0, 3), None)?;
     assert!(rt; chains.is_list(0, 1, &[]));
     assert!(rt; chains.is_list(1, 0, &[]));
     Ok(())
@@ -70,17 +71,13 @@ fn those_due_come_by_deadline_then_number(rt: HostRuntime) -> Result<(), Fail> {
         (1256, 1256, [].as_slice()),
         (1512, 1000, [].as_slice()),
     ] {
-        assert_eq!(rt;
-            wheel.due(alloc, from, to)?.as_slice(),
-            wanted,
-            "{from} {to}"
-        );
+        same_at((from, to), wheel.due(alloc, from, to)?.as_slice(), wanted)?;
     }
     assert!(rt; wheel.is_slot(232, &[7, 3, 5]));
     assert!(rt; wheel.remove(3));
     assert!(rt; wheel.is_slot(232, &[7, 5]));
-    assert_eq!(rt; wheel.deadline_of(3), None);
-    assert_eq!(rt; wheel.deadline_of(5), Some(1256));
+    same(wheel.deadline_of(3), None)?;
+    same(wheel.deadline_of(5), Some(1256))?;
     Ok(())
 }
 
@@ -92,12 +89,12 @@ fn a_jump_over_the_whole_range_meets_each_slot_once(rt: HostRuntime) -> Result<(
         assert!(rt; wheel.put(999 - node, (1 + node as u64) << 30));
     }
     let all = wheel.due(alloc, 0, LAST_MOMENT)?;
-    assert_eq!(rt; all.len(), 1000);
+    same(all.len(), 1000)?;
     for (place, node) in all.iter().enumerate() {
-        assert_eq!(rt; *node as usize, 999usize.saturating_sub(place));
+        same(*node as usize, 999usize.saturating_sub(place))?;
     }
-    assert_eq!(rt; wheel.due(alloc, LAST_MOMENT, u64::MAX)?.len(), 0);
-    assert_eq!(rt; wheel.due(alloc, u64::MAX - 1, u64::MAX)?.len(), 0);
+    same(wheel.due(alloc, LAST_MOMENT, u64::MAX)?.len(), 0)?;
+    same(wheel.due(alloc, u64::MAX - 1, u64::MAX)?.len(), 0)?;
     Ok(())
 }
 
@@ -110,8 +107,8 @@ fn a_copied_wheel_goes_its_own_way(rt: HostRuntime) -> Result<(), Fail> {
     let mut copy = wheel.copy(alloc)?;
     assert!(rt; copy.is_slot(44, &[2, 1]));
     assert!(rt; copy.remove(2));
-    assert_eq!(rt; copy.due(alloc, 0, 1000)?.as_slice(), [1].as_slice());
-    assert_eq!(rt; wheel.due(alloc, 0, 1000)?.as_slice(), [1, 2].as_slice());
+    same(copy.due(alloc, 0, 1000)?.as_slice(), [1].as_slice())?;
+    same(wheel.due(alloc, 0, 1000)?.as_slice(), [1, 2].as_slice())?;
     assert!(rt; wheel.is_slot(44, &[2, 1]));
     Ok(())
 }

@@ -2,9 +2,10 @@
 
 use crate::told;
 use crate::watched::Watched;
+use alm_common_tests::slot_of;
 use alm_model::{Alarms, List};
 use alm_state::Core;
-use alm_types::{Action, AlarmId, Request, Slot, Table, Want};
+use alm_types::{Action, AlarmId, Request, Table, Want};
 use std::alloc::{AllocError, Global};
 use std::test::Fail;
 
@@ -16,7 +17,7 @@ pub struct Beside<P: Alarms + Drop> {
 }
 
 /// The slot that may ask for an action.
-fn slot_of(want: &Action) -> u8 {
+fn number_of(want: &Action) -> u8 {
     match want {
         Action::Clock(_) => 17,
         Action::Value(_, _) | Action::Design(_, _) => 16,
@@ -55,7 +56,7 @@ impl<P: Alarms + Drop> Beside<P> {
 
     /// Does an action and measures it, if it is accepted.
     pub fn act(&mut self, want: Action) -> Result<bool, Fail> {
-        let slot = Slot::new(slot_of(&want)).ok_or("slot")?;
+        let slot = slot_of(number_of(&want))?;
         let next = self.plant.next_stamp();
         let Ok(action) = self.plant.check(&Request {
             slot,

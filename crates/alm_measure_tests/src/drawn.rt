@@ -4,8 +4,9 @@ ghost use Rattle.std.specs.Prelude.{◌<◌};
 
 use crate::beside::Beside;
 use crate::tables::table;
+use alm_common_tests::{holds_at, reading_of, same};
 use alm_model::{Alarms, PlainPlant};
-use alm_types::{Action, AlarmId, Moment, Reading, Table};
+use alm_types::{Action, AlarmId, Moment, Table};
 use std::alloc::{AllocError, Global};
 use std::test::Fail;
 
@@ -52,11 +53,8 @@ fn action(drawn: u64, now: Moment) -> Result<Action, Fail> {
         6 => Action::Unshelve(id),
         7 => Action::Oos(id, on),
         8 => Action::Design(id, on),
-        9 => Action::Value(id, Reading::new(1).ok_or("reading")?),
-        _ => Action::Value(
-            id,
-            Reading::new(if on { 1000 } else { -1000 }).ok_or("reading")?,
-        ),
+        9 => Action::Value(id, reading_of(1)?),
+        _ => Action::Value(id, reading_of(if on { 1000 } else { -1000 })?),
     })
 }
 
@@ -158,14 +156,8 @@ fn drawn_actions_are_measured_as_a_plain_plant_does(rt: HostRuntime) -> Result<(
         floods,
         chattering,
     } = draw_on_new(rt.alloc())?;
-    assert_eq!(rt; accepted, ACTIONS);
-    assert!(rt;
-        floods > 100 && floods < 9_900,
-        "{floods} actions within a flood"
-    );
-    assert!(rt;
-        chattering > 100 && chattering < 9_900,
-        "{chattering} actions with chattering"
-    );
+    same(accepted, ACTIONS)?;
+    holds_at(floods, floods > 100 && floods < 9_900)?;
+    holds_at(chattering, chattering > 100 && chattering < 9_900)?;
     Ok(())
 }

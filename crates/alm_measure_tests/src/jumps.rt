@@ -2,7 +2,7 @@
 
 use crate::tables::table;
 use crate::watched::Watched;
-use alm_types::Moment;
+use alm_common_tests::{holds_at, moment_of, same};
 use std::alloc::Global;
 use std::test::Fail;
 
@@ -16,7 +16,7 @@ fn new_measure(alloc: Global) -> Result<Watched, Fail> {
 /// Alarm 0 is annunciated once at 1401, twice at 1941 and four times at 2000, the clock's last moment.
 fn annunciate_seven_times(measure: &mut Watched) -> Result<(), Fail> {
     for (moment, times) in [(1401, 1), (1941, 2), (2000, 4)] {
-        measure.advance(Moment::new(moment).ok_or("moment")?);
+        measure.advance(moment_of(moment)?);
         for _time in 0..times {
             measure.annunciated(0);
         }
@@ -51,7 +51,7 @@ fn leaves(
 ) -> Result<bool, Fail> {
     annunciate_seven_times(measure)?;
     let before = ages(alloc, measure)?.as_slice() == BEFORE.as_slice();
-    let moved = measure.advance(Moment::new(to).ok_or("moment")?);
+    let moved = measure.advance(moment_of(to)?);
     measure.settle();
     let left = ages(alloc, measure)?.as_slice() == wanted
         && measure.window(0) == Some((window, false))
@@ -87,14 +87,14 @@ fn leaves_of_new(alloc: Global, row: Jump<'_>) -> Result<bool, Fail> {
 fn a_jump_leaves_what_is_less_than_600_seconds_old(rt: HostRuntime) -> Result<(), Fail> {
     for row in JUMPS {
         let same = leaves_of_new(rt.alloc(), row)?;
-        assert!(rt; same, "to {}", row.0);
+        holds_at(row.0, same)?;
     }
     Ok(())
 }
 
 /// Whether a second passes with one annunciation, and the window of the last 600 seconds is counted.
 fn passes(measure: &mut Watched, second: u64) -> Result<bool, Fail> {
-    let moved = measure.advance(Moment::new(second).ok_or("moment")?);
+    let moved = measure.advance(moment_of(second)?);
     let annunciated = measure.annunciated(3);
     measure.settle();
     let window = second.min(600);
@@ -132,7 +132,7 @@ fn each_second_of_an_hour_forgets_one_second(rt: HostRuntime) -> Result<(), Fail
     let wrong = first_wrong(&mut measure);
     let even = is_even(&measure);
     drop(measure);
-    assert_eq!(rt; wrong?, 3600);
+    same(wrong?, 3600)?;
     assert!(rt; even);
     Ok(())
 }

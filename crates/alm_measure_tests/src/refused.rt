@@ -3,7 +3,8 @@
 
 use crate::tables::table;
 use crate::watched::Watched;
-use alm_types::{Moment, Table};
+use alm_common_tests::moment_of;
+use alm_types::Table;
 use std::alloc::{AllocError, Global};
 use std::test::Fail;
 
@@ -44,7 +45,7 @@ fn is_apart(measure: &Watched, copy: &mut Watched) -> bool {
 
 /// The same of a measure with one annunciation, and a copy of it.
 fn is_copied(alloc: Global, measure: &mut Watched) -> Result<bool, Fail> {
-    let moved = measure.advance(Moment::new(1000).ok_or("moment")?);
+    let moved = measure.advance(moment_of(1000)?);
     let annunciated = measure.annunciated(4);
     let mut copy = copy_again(alloc, measure)?;
     let apart = is_apart(measure, &mut copy);

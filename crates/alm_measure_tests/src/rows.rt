@@ -3,8 +3,9 @@
 use crate::beside::Beside;
 use crate::rows::Step::{Chatter, Clock, Moments, Same, Values, Window};
 use crate::tables::table;
+use alm_common_tests::{moment_of, reading_of, same_at};
 use alm_model::{Alarms, PlainPlant};
-use alm_types::{Action, AlarmId, Moment, Reading};
+use alm_types::{Action, AlarmId, Moment};
 use std::alloc::Global;
 use std::test::Fail;
 
@@ -80,7 +81,7 @@ const ROWS: [(&str, &[Step<'static>]); 3] = [
 /// Whether each of these values is accepted.
 fn are_accepted<P: Alarms + Drop>(beside: &mut Beside<P>, values: &[i64]) -> Result<bool, Fail> {
     for value in values {
-        let value = Reading::new(*value).ok_or("reading")?;
+        let value = reading_of(*value)?;
         if !beside.act(Action::Value(AlarmId(0), value))? {
             return Ok(false);
         }
@@ -109,7 +110,7 @@ fn goes<P: Alarms + Drop>(
 ) -> Result<bool, Fail> {
     Ok(match step {
         Clock(moment) => {
-            let moment = Moment::new(*moment).ok_or("moment")?;
+            let moment = moment_of(*moment)?;
             beside.act(Action::Clock(moment))?
         }
         Values(values) => are_accepted(beside, values)?,
@@ -147,7 +148,7 @@ fn first_wrong_of_new(alloc: Global, row: &[Step<'_>]) -> Result<Option<usize>, 
 fn each_row(rt: HostRuntime) -> Result<(), Fail> {
     for (name, row) in ROWS {
         let wrong = first_wrong_of_new(rt.alloc(), row)?;
-        assert_eq!(rt; wrong, None, "{name}");
+        same_at(name, wrong, None)?;
     }
     Ok(())
 }

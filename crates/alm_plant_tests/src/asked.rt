@@ -1,6 +1,7 @@
 //! Actions by their numbers.
 
-use alm_types::{Action, AlarmId, Moment, Reading};
+use alm_common_tests::{moment_of, reading_of};
+use alm_types::{Action, AlarmId};
 use std::test::Fail;
 
 /// What a slot asks for, by numbers, so that a constant can have it.
@@ -22,10 +23,8 @@ impl Asked {
     /// The action of these numbers; an error if a number is out of its range.
     pub fn action(self) -> Result<Action, Fail> {
         Ok(match self {
-            Asked::Clock(seconds) => Action::Clock(Moment::new(seconds).ok_or("moment")?),
-            Asked::Value(alarm, value) => {
-                Action::Value(AlarmId(alarm), Reading::new(value).ok_or("reading")?)
-            }
+            Asked::Clock(seconds) => Action::Clock(moment_of(seconds)?),
+            Asked::Value(alarm, value) => { Action::Value(AlarmId(alarm), reading_of(value)?) }
             Asked::Ack(alarm) => Action::Ack(AlarmId(alarm)),
             Asked::Reset(alarm) => Action::Reset(AlarmId(alarm)),
             Asked::Shelve(alarm, seconds) => Action::Shelve(AlarmId(alarm), seconds),
@@ -34,7 +33,7 @@ impl Asked {
             Asked::Design(alarm, on) => Action::Design(AlarmId(alarm), on),
             Asked::SetPriority(alarm, priority) => Action::SetPriority(AlarmId(alarm), priority),
             Asked::SetSetpoint(alarm, setpoint) => {
-                Action::SetSetpoint(AlarmId(alarm), Reading::new(setpoint).ok_or("reading")?)
+                Action::SetSetpoint(AlarmId(alarm), reading_of(setpoint)?)
             }
         })
     }

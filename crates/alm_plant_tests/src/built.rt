@@ -3,9 +3,10 @@
 use crate::same::is_same;
 use crate::tables::table;
 use alm_codec::{image_len, read_image, write_image};
+use alm_common_tests::{reading_of, same};
 use alm_model::{Alarms, List, PlainPlant};
 use alm_plant::Plant;
-use alm_types::{Action, AlarmId, Reading, Table};
+use alm_types::{Action, AlarmId, Table};
 use std::alloc::Global;
 use std::test::Fail;
 
@@ -52,7 +53,7 @@ fn built_list<P: Alarms + Drop, Q: Alarms + Drop>(
     rows: &Table,
 ) -> Result<Option<Vec<u32>>, Fail> {
     let mut plain = P::new(alloc, rows)?;
-    let zero = Reading::new(0).ok_or("reading")?;
+    let zero = reading_of(0)?;
     for turn in 0..24u32 {
         act(
             &mut plain,
@@ -70,9 +71,9 @@ fn built_list<P: Alarms + Drop, Q: Alarms + Drop>(
 fn lists_go_by_stamps_that_run_against_the_numbers(rt: HostRuntime) -> Result<(), Fail> {
     let rows = table(rt.alloc(), 24, 1).ok_or("table")?;
     let all = built_list::<PlainPlant, Plant>(rt.alloc(), &rows)?.ok_or("list")?;
-    assert_eq!(rt; all.len(), 24);
-    assert_eq!(rt; all.as_slice().first().copied(), Some(23));
-    assert_eq!(rt; all.as_slice().last().copied(), Some(0));
+    same(all.len(), 24)?;
+    same(all.as_slice().first().copied(), Some(23))?;
+    same(all.as_slice().last().copied(), Some(0))?;
     Ok(())
 }
 

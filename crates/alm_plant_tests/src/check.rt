@@ -2,10 +2,11 @@
 
 use crate::asked::Asked;
 use crate::step::Step;
+use alm_common_tests::{same_at, slot_of};
 use alm_desk::worked_table;
 use alm_model::{Alarms, List, PlainPlant};
 use alm_plant::Plant;
-use alm_types::{AlarmId, Answer, Refusal, Request, Shown, Slot, Table, Want};
+use alm_types::{AlarmId, Answer, Refusal, Request, Shown, Table, Want};
 use std::alloc::{AllocError, Global};
 use std::process::Abort;
 use std::test::Fail;
@@ -20,7 +21,7 @@ fn is_answered<P: Alarms>(
     want: Asked,
     wanted: Option<Refusal>,
 ) -> Result<bool, Fail> {
-    let slot = Slot::new(slot).ok_or("slot")?;
+    let slot = slot_of(slot)?;
     let want = want.action()?;
     let before = plant.count();
     Ok(
@@ -30,7 +31,7 @@ fn is_answered<P: Alarms>(
         }) {
             Ok(action) => {
                 plant.apply(&action);
-                wanted.is_none() && action == want && plant.count() == before + 1
+                wanted.is_none() && action == want && plant.count() == before.wrapping_add(1)
             }
             Err(refusal) => wanted == Some(refusal) && plant.count() == before,
         },
@@ -121,9 +122,9 @@ pub fn check_all<R: Abort + AllocGlobal>(rt: &R, rows: &[Row]) -> Result<(), Fai
     let table = worked_table(alloc)?;
     for (name, row) in rows {
         let wrong = first_wrong::<PlainPlant>(alloc, &table, row)?;
-        assert_eq!(rt; wrong, None, "{name}");
+        same_at(name, wrong, None)?;
         let wrong = first_wrong::<Plant>(alloc, &table, row)?;
-        assert_eq!(rt; wrong, None, "{name}");
+        same_at(name, wrong, None)?;
     }
     Ok(())
 }

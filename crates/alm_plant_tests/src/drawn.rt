@@ -4,9 +4,10 @@ ghost use Rattle.std.specs.Prelude.{◌<◌};
 
 use crate::same::is_same;
 use crate::tables::table;
+use alm_common_tests::reading_of;
 use alm_model::{Alarms, PlainPlant};
 use alm_plant::Plant;
-use alm_types::{Action, AlarmId, Moment, Reading, Table};
+use alm_types::{Action, AlarmId, Moment, Table};
 use std::alloc::Global;
 use std::test::Fail;
 
@@ -50,14 +51,8 @@ fn action(drawn: u64, now: Moment) -> Result<Action, Fail> {
         8 => Action::Oos(id, on),
         9 => Action::Design(id, on),
         10 => Action::SetPriority(id, below(drawn, 44, 6)),
-        11 => Action::SetSetpoint(
-            id,
-            Reading::new(below(drawn, 44, 3) as i64 - 1).ok_or("reading")?,
-        ),
-        _ => Action::Value(
-            id,
-            Reading::new(below(drawn, 50, 3) as i64 - 1).ok_or("reading")?,
-        ),
+        11 => Action::SetSetpoint(id, reading_of(below(drawn, 44, 3) as i64 - 1)?),
+        _ => Action::Value(id, reading_of(below(drawn, 50, 3) as i64 - 1)?),
     })
 }
 

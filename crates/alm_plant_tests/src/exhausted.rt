@@ -1,10 +1,11 @@
 //! A plant that has had all its actions.
 
 use crate::asked::Asked;
+use alm_common_tests::{holds_at, slot_of};
 use alm_desk::worked_table;
 use alm_model::{Alarms, PlainPlant, PlantParts};
 use alm_plant::Plant;
-use alm_types::{Refusal, Request, Slot, Want};
+use alm_types::{Refusal, Request, Want};
 use std::alloc::Global;
 use std::test::Fail;
 
@@ -33,7 +34,7 @@ fn full<P: Alarms>(alloc: Global) -> Result<P, Fail> {
 fn first_wrong<P: Alarms + Drop>(alloc: Global) -> Result<Option<Asked>, Fail> {
     let plant = full::<P>(alloc)?;
     for (slot, want, refusal) in REFUSED {
-        let slot = Slot::new(slot).ok_or("slot")?;
+        let slot = slot_of(slot)?;
         let request = Request {
             slot,
             want: Want::Do(want.action()?),
@@ -48,13 +49,13 @@ fn first_wrong<P: Alarms + Drop>(alloc: Global) -> Result<Option<Asked>, Fail> {
 #[test]
 fn a_full_plant_refuses_last_for_want_of_numbers(rt: HostRuntime) -> Result<(), Fail> {
     let wrong = first_wrong::<PlainPlant>(rt.alloc())?;
-    assert!(rt; wrong.is_none(), "{wrong:?}");
+    holds_at(wrong, wrong.is_none())?;
     Ok(())
 }
 
 #[test]
 fn a_full_linked_plant_refuses_last_for_want_of_numbers(rt: HostRuntime) -> Result<(), Fail> {
     let wrong = first_wrong::<Plant>(rt.alloc())?;
-    assert!(rt; wrong.is_none(), "{wrong:?}");
+    holds_at(wrong, wrong.is_none())?;
     Ok(())
 }

@@ -1,10 +1,9 @@
 //! Both plants at their limits: the most alarms, the last moment, and copies.
 
+use alm_common_tests::{moment_of, reading_of, same, slot_of};
 use alm_model::{Alarms, List, PlainPlant, PlantParts};
 use alm_plant::Plant;
-use alm_types::{
-    Action, AlarmId, Attr, Kind, Moment, Reading, Refusal, Request, Settings, Slot, Table, Want,
-};
+use alm_types::{Action, AlarmId, Attr, Kind, Refusal, Request, Settings, Table, Want};
 use std::alloc::Global;
 use std::process::Abort;
 use std::test::Fail;
@@ -29,7 +28,7 @@ fn table(alloc: Global, rows: u32, areas: u8) -> Result<Table, Fail> {
 
 /// Asks for an action at a slot.
 fn ask<P: Alarms>(plant: &mut P, slot: u8, want: Action) -> Result<(), Fail> {
-    let slot = Slot::new(slot).ok_or("slot")?;
+    let slot = slot_of(slot)?;
     let action = plant.check(&Request {
         slot,
         want: Want::Do(want),
@@ -64,41 +63,41 @@ fn refusal<P: Alarms>(plant: &P, want: Action) -> Option<Refusal> {
 fn largest_plant<P: Alarms + Drop, R: Abort + AllocGlobal>(rt: &R) -> Result<(), Fail> {
     let alloc = rt.alloc();
     let mut plant = P::new(alloc, &table(alloc, 16384, 64)?)?;
-    let high = Reading::new(1).ok_or("reading")?;
+    let high = reading_of(1)?;
     for number in 0..16_384_u32 {
         ask(&mut plant, 16, Action::Value(AlarmId(number), high))?;
     }
-    assert_eq!(rt; plant.count(), 16_384);
-    assert_eq!(rt; plant.next_stamp(), 16_385);
+    same(plant.count(), 16_384)?;
+    same(plant.next_stamp(), 16_385)?;
     let all = list(alloc, &plant, List::Priority(1))?;
-    assert_eq!(rt; all.len(), 16_384);
-    assert_eq!(rt; all.as_slice().first().copied(), Some(0));
-    assert_eq!(rt; all.as_slice().last().copied(), Some(16_383));
+    same(all.len(), 16_384)?;
+    same(all.as_slice().first().copied(), Some(0))?;
+    same(all.as_slice().last().copied(), Some(16_383))?;
     let area = list(alloc, &plant, List::Area(63))?;
-    assert_eq!(rt; area.len(), 256);
-    assert_eq!(rt; area.as_slice().first().copied(), Some(63));
+    same(area.len(), 256)?;
+    same(area.as_slice().first().copied(), Some(63))?;
     assert!(rt; !plant.has_list(List::Area(64)));
-    assert_eq!(rt;
+    same(
         refusal(&plant, Action::Ack(AlarmId(16_384))),
-        Some(Refusal::NoSuchAlarm)
-    );
+        Some(Refusal::NoSuchAlarm),
+    )?;
     Ok(())
 }
 
 fn copies_the_largest_plant<P: Alarms + Drop, R: Abort + AllocGlobal>(rt: &R) -> Result<(), Fail> {
     let alloc = rt.alloc();
     let mut plant = P::new(alloc, &table(alloc, 16384, 64)?)?;
-    let high = Reading::new(1).ok_or("reading")?;
+    let high = reading_of(1)?;
     ask(&mut plant, 16, Action::Value(AlarmId(16_383), high))?;
     let copy = plant.copy(alloc)?;
-    assert_eq!(rt; copy.alarms(), 16_384);
-    assert_eq!(rt; copy.areas(), 64);
-    assert_eq!(rt; copy.count(), 1);
-    assert_eq!(rt; copy.moments(AlarmId(16_383)).len(), 1);
-    assert_eq!(rt;
+    same(copy.alarms(), 16_384)?;
+    same(copy.areas(), 64)?;
+    same(copy.count(), 1)?;
+    same(copy.moments(AlarmId(16_383)).len(), 1)?;
+    same(
         list(alloc, &copy, List::Area(63))?.as_slice(),
-        [16_383].as_slice()
-    );
+        [16_383].as_slice(),
+    )?;
     Ok(())
 }
 
@@ -106,9 +105,9 @@ fn builds_the_largest_plant<P: Alarms + Drop, R: Abort + AllocGlobal>(rt: &R) ->
     let alloc = rt.alloc();
     let parts = PlantParts::new(alloc, &table(alloc, 16384, 64)?)?;
     let plant = P::build(alloc, parts)?;
-    assert_eq!(rt; plant.alarms(), 16_384);
-    assert_eq!(rt; plant.areas(), 64);
-    assert_eq!(rt; plant.next_stamp(), 1);
+    same(plant.alarms(), 16_384)?;
+    same(plant.areas(), 64)?;
+    same(plant.next_stamp(), 1)?;
     Ok(())
 }
 
@@ -133,23 +132,20 @@ fn the_largest_linked_plant_is_made_copied_and_built_of_its_parts(
 fn last_moment<P: Alarms + Drop, R: Abort + AllocGlobal>(rt: &R) -> Result<(), Fail> {
     let alloc = rt.alloc();
     let mut plant = P::new(alloc, &table(alloc, 2, 1)?)?;
-    let high = Reading::new(1).ok_or("reading")?;
+    let high = reading_of(1)?;
     ask(&mut plant, 16, Action::Value(AlarmId(1), high))?;
-    let last = Moment::new(1_099_511_627_775).ok_or("moment")?;
+    let last = moment_of(1_099_511_627_775)?;
     ask(&mut plant, 0, Action::Shelve(AlarmId(0), 604_800))?;
     ask(&mut plant, 17, Action::Clock(last))?;
-    assert_eq!(rt; plant.now(), last);
-    assert_eq!(rt;
+    same(plant.now(), last)?;
+    same(
         refusal(&plant, Action::Clock(last)),
-        Some(Refusal::ClockBack)
-    );
+        Some(Refusal::ClockBack),
+    )?;
     ask(&mut plant, 0, Action::Shelve(AlarmId(0), 604_800))?;
     let row = plant.state(AlarmId(0)).ok_or("row")?;
-    assert_eq!(rt; row.shelved_until, Some(1_099_512_232_575));
-    assert_eq!(rt;
-        list(alloc, &plant, List::Stale)?.as_slice(),
-        [1].as_slice()
-    );
+    same(row.shelved_until, Some(1_099_512_232_575))?;
+    same(list(alloc, &plant, List::Stale)?.as_slice(), [1].as_slice())?;
     Ok(())
 }
 
@@ -162,28 +158,24 @@ fn the_last_moment(rt: HostRuntime) -> Result<(), Fail> {
 fn copy_is_the_same_plant<P: Alarms + Drop, R: Abort + AllocGlobal>(rt: &R) -> Result<(), Fail> {
     let alloc = rt.alloc();
     let mut plant = P::new(alloc, &table(alloc, 3, 2)?)?;
-    let high = Reading::new(1).ok_or("reading")?;
-    ask(
-        &mut plant,
-        17,
-        Action::Clock(Moment::new(5).ok_or("moment")?),
-    )?;
+    let high = reading_of(1)?;
+    ask(&mut plant, 17, Action::Clock(moment_of(5)?))?;
     for number in [2, 0] {
         ask(&mut plant, 16, Action::Value(AlarmId(number), high))?;
     }
     let copy = plant.copy(alloc)?;
-    assert_eq!(rt; copy.now(), plant.now());
-    assert_eq!(rt; copy.count(), 3);
-    assert_eq!(rt; copy.next_stamp(), 3);
-    assert_eq!(rt; copy.state(AlarmId(2)), plant.state(AlarmId(2)));
-    assert_eq!(rt; area_of(&copy, 2), Some(0));
-    assert_eq!(rt; area_of(&copy, 3), None);
-    assert_eq!(rt; copy.moments(AlarmId(2)).len(), 1);
-    assert_eq!(rt; copy.moments(AlarmId(1)).len(), 0);
-    assert_eq!(rt;
+    same(copy.now(), plant.now())?;
+    same(copy.count(), 3)?;
+    same(copy.next_stamp(), 3)?;
+    same(copy.state(AlarmId(2)), plant.state(AlarmId(2)))?;
+    same(area_of(&copy, 2), Some(0))?;
+    same(area_of(&copy, 3), None)?;
+    same(copy.moments(AlarmId(2)).len(), 1)?;
+    same(copy.moments(AlarmId(1)).len(), 0)?;
+    same(
         list(alloc, &copy, List::Priority(1))?.as_slice(),
-        [2, 0].as_slice()
-    );
+        [2, 0].as_slice(),
+    )?;
     Ok(())
 }
 
@@ -192,15 +184,15 @@ fn copy_has_the_same_measures<P: Alarms + Drop, R: Abort + AllocGlobal>(
 ) -> Result<(), Fail> {
     let alloc = rt.alloc();
     let mut plant = P::new(alloc, &table(alloc, 3, 2)?)?;
-    let high = Reading::new(1).ok_or("reading")?;
+    let high = reading_of(1)?;
     for number in [2, 0] {
         ask(&mut plant, 16, Action::Value(AlarmId(number), high))?;
     }
     let copy = plant.copy(alloc)?;
     assert!(rt; copy.has_list(List::Area(0)));
-    assert_eq!(rt; copy.window(0), (2, false));
-    assert_eq!(rt; copy.age(0, 0), 2);
-    assert_eq!(rt; copy.age(0, 599), 0);
+    same(copy.window(0), (2, false))?;
+    same(copy.age(0, 0), 2)?;
+    same(copy.age(0, 599), 0)?;
     Ok(())
 }
 

@@ -1,9 +1,10 @@
 //! Stamps, and what depends on them.
 
 use crate::asked::Asked;
+use alm_common_tests::{same, slot_of};
 use alm_model::{Alarms, List, PlainPlant};
 use alm_plant::Plant;
-use alm_types::{AlarmId, Attr, Kind, Request, Settings, Slot, Table, Want};
+use alm_types::{AlarmId, Attr, Kind, Request, Settings, Table, Want};
 use std::alloc::Global;
 use std::process::Abort;
 use std::test::Fail;
@@ -29,7 +30,7 @@ fn three<P: Alarms + Drop>(alloc: Global) -> Result<P, Fail> {
 
 /// Asks at a slot.
 fn ask<P: Alarms>(plant: &mut P, slot: u8, want: Asked) -> Result<(), Fail> {
-    let slot = Slot::new(slot).ok_or("slot")?;
+    let slot = slot_of(slot)?;
     let want = want.action()?;
     let action = plant.check(&Request {
         slot,
@@ -57,7 +58,7 @@ fn shelvings<P: Alarms + Drop, R: Abort + AllocGlobal>(rt: &R) -> Result<(), Fai
     let mut area = Vec::with_capacity(alloc, plant.alarms())?;
     assert!(rt; plant.has_list(List::Area(0)));
     plant.fill(List::Area(0), &mut area);
-    assert_eq!(rt; area.as_slice(), [1, 2, 0].as_slice());
+    same(area.as_slice(), [1, 2, 0].as_slice())?;
     Ok(())
 }
 
@@ -69,14 +70,14 @@ fn three_shelvings_end_by_deadline(rt: HostRuntime) -> Result<(), Fail> {
 
 fn stamp_of_a_normal_alarm<P: Alarms + Drop, R: Abort + AllocGlobal>(rt: &R) -> Result<(), Fail> {
     let mut plant = three::<P>(rt.alloc())?;
-    assert_eq!(rt; stamp(&plant, 0), Some(0));
+    same(stamp(&plant, 0), Some(0))?;
     ask(&mut plant, 16, Asked::Value(0, 1))?;
-    assert_eq!(rt; stamp(&plant, 0), Some(1));
+    same(stamp(&plant, 0), Some(1))?;
     ask(&mut plant, 0, Asked::Ack(0))?;
-    assert_eq!(rt; stamp(&plant, 0), Some(1));
+    same(stamp(&plant, 0), Some(1))?;
     ask(&mut plant, 16, Asked::Value(0, 0))?;
-    assert_eq!(rt; stamp(&plant, 0), Some(0));
-    assert_eq!(rt; plant.next_stamp(), 2);
+    same(stamp(&plant, 0), Some(0))?;
+    same(plant.next_stamp(), 2)?;
     Ok(())
 }
 
@@ -90,12 +91,12 @@ fn stamp_of_a_shelving<P: Alarms + Drop, R: Abort + AllocGlobal>(rt: &R) -> Resu
     let mut plant = three::<P>(rt.alloc())?;
     ask(&mut plant, 0, Asked::Shelve(2, 60))?;
     ask(&mut plant, 0, Asked::Shelve(1, 60))?;
-    assert_eq!(rt; stamp(&plant, 2), Some(1));
-    assert_eq!(rt; stamp(&plant, 1), Some(2));
+    same(stamp(&plant, 2), Some(1))?;
+    same(stamp(&plant, 1), Some(2))?;
     ask(&mut plant, 0, Asked::Oos(2, true))?;
-    assert_eq!(rt; stamp(&plant, 2), Some(1));
+    same(stamp(&plant, 2), Some(1))?;
     ask(&mut plant, 0, Asked::Unshelve(2))?;
-    assert_eq!(rt; stamp(&plant, 2), Some(0));
+    same(stamp(&plant, 2), Some(0))?;
     Ok(())
 }
 

@@ -1,6 +1,7 @@
 //! The program over devices, in files of the tests' own folder.
 
 use crate::runs::{BROKEN, DONE, Run, TABLE_FAULT, USAGE, ends, first_wrong};
+use alm_common_tests::{holds_at, same};
 use std::fs;
 use std::os::unix::fs::MetadataExt;
 use std::test::Fail;
@@ -99,9 +100,9 @@ const KEEPS: [Run; 6] = [
 #[test]
 fn a_device_keeps_what_was_answered(rt: HostRuntime) -> Result<(), Fail> {
     write_file(&rt, "keeps.toml", &[SIZES, ALARMS])?;
-    assert_eq!(rt; first_wrong(&rt, &KEEPS), None);
+    same(first_wrong(&rt, &KEEPS), None)?;
     let made = fs::metadata(&rt, "keeps.device")?;
-    assert_eq!(rt; made.mode() & 0o777, 0o600);
+    same(made.mode() & 0o777, 0o600)?;
     Ok(())
 }
 
@@ -176,12 +177,12 @@ fn is_upgraded(bytes: &[u8]) -> bool {
 #[test]
 fn a_device_of_version_01_goes_on_and_opens_again(rt: HostRuntime) -> Result<(), Fail> {
     write_file(&rt, "old.toml", &[SIZES, ALARMS])?;
-    assert_eq!(rt; first_wrong(&rt, &FORMATS), None);
+    same(first_wrong(&rt, &FORMATS), None)?;
     make_old(&rt, "old.device")?;
-    assert_eq!(rt; first_wrong(&rt, &UPGRADES), None);
+    same(first_wrong(&rt, &UPGRADES), None)?;
     let bytes = fs::read(&rt, "old.device")?;
     assert!(rt; is_upgraded(&bytes));
-    assert_eq!(rt; first_wrong(&rt, &GOES_ON), None);
+    same(first_wrong(&rt, &GOES_ON), None)?;
     Ok(())
 }
 
@@ -201,9 +202,9 @@ fn a_table_that_is_refused_makes_no_device(rt: HostRuntime) -> Result<(), Fail> 
     for (row, (parts, line)) in REFUSED.iter().enumerate() {
         write_file(&rt, "refused.toml", parts)?;
         let same = ends(&rt, words, b"", (TABLE_FAULT, b"", line));
-        assert!(rt; same, "row {row}");
+        holds_at(row, same)?;
         let made = fs::metadata(&rt, "refused.device").is_ok();
-        assert!(rt; !made, "row {row}");
+        holds_at(row, !made)?;
     }
     Ok(())
 }
@@ -259,14 +260,14 @@ const ANOTHER: [Run; 2] = [
 
 #[test]
 fn the_fault_of_a_device_is_told(rt: HostRuntime) -> Result<(), Fail> {
-    assert_eq!(rt; first_wrong(&rt, &MISSING), None);
+    same(first_wrong(&rt, &MISSING), None)?;
     write_file(&rt, "faulty.toml", &["size = 28996\nareas = 2\n", ALARMS])?;
-    assert_eq!(rt; first_wrong(&rt, &TOO_SMALL), None);
+    same(first_wrong(&rt, &TOO_SMALL), None)?;
     fs::write(&rt, "faulty.device", [0u8; 64].as_slice())?;
-    assert_eq!(rt; first_wrong(&rt, &UNFORMATTED), None);
+    same(first_wrong(&rt, &UNFORMATTED), None)?;
     let text = b"\xA5BLMSRV01 and more than a header has\n";
     fs::write(&rt, "faulty.device", text.as_slice())?;
-    assert_eq!(rt; first_wrong(&rt, &ANOTHER), None);
+    same(first_wrong(&rt, &ANOTHER), None)?;
     Ok(())
 }
 
@@ -293,13 +294,13 @@ const BEFORE: [(&[u8], usize); 2] = [(&[7; 64], 64), (&[7; 30_000], SMALL)];
 #[test]
 fn a_table_that_is_too_large_sets_the_size_of_its_device(rt: HostRuntime) -> Result<(), Fail> {
     write_file(&rt, "small.toml", &["size = 28996\nareas = 2\n", ALARMS])?;
-    assert_eq!(rt; first_wrong(&rt, &FORMATS_TOO_SMALL), None);
+    same(first_wrong(&rt, &FORMATS_TOO_SMALL), None)?;
     assert!(rt; is_set(&rt, &[])?);
     for (before, kept) in BEFORE {
         fs::write(&rt, "small.device", before)?;
-        assert_eq!(rt; first_wrong(&rt, &FORMATS_TOO_SMALL), None);
+        same(first_wrong(&rt, &FORMATS_TOO_SMALL), None)?;
         let front = before.get(..kept).ok_or("front")?;
-        assert!(rt; is_set(&rt, front)?, "{kept}");
+        holds_at(kept, is_set(&rt, front)?)?;
     }
     Ok(())
 }

@@ -1,6 +1,7 @@
 //! A device that an earlier release wrote stays usable.
 
 use crate::runs::{DONE, Run, first_wrong};
+use alm_common_tests::same;
 use std::fs;
 use std::test::Fail;
 
@@ -115,6 +116,6 @@ fn a_device_of_an_earlier_release_goes_on(rt: HostRuntime) -> Result<(), Fail> {
     let mut bytes = vec![in rt.alloc(); 0u8; SIZE]?;
     put_parts(&mut bytes).ok_or("a place")?;
     fs::write(&rt, "earlier.device", bytes.as_slice())?;
-    assert_eq!(rt; first_wrong(&rt, &GOES_ON), None);
+    same(first_wrong(&rt, &GOES_ON), None)?;
     Ok(())
 }

@@ -1,6 +1,7 @@
 //! What is exported of a device in a file.
 
 use crate::runs::{BROKEN, DONE, Run, first_wrong};
+use alm_common_tests::same;
 use std::fs;
 use std::test::Fail;
 
@@ -81,6 +82,6 @@ const EXPORTS: [Run; 4] = [
 #[test]
 fn a_table_is_exported_with_what_is_in_force(rt: HostRuntime) -> Result<(), Fail> {
     fs::write(&rt, "exported.toml", TABLE)?;
-    assert_eq!(rt; first_wrong(&rt, &EXPORTS), None);
+    same(first_wrong(&rt, &EXPORTS), None)?;
     Ok(())
 }

@@ -1,6 +1,7 @@
 //! Reads, and a desk over them.
 
 use crate::script::{Script, Step};
+use alm_common_tests::{holds_at, same_at};
 use alm_desk::{
     Backend, CountedReader, CountedWriter, LocalDesk, ReadOutcome, RunFault, desk_of, desk_run,
     worked_table,
@@ -32,13 +33,14 @@ const TAKES: [(ReadOutcome, &[u8]); 8] = [
 ];
 
 #[test]
-fn each_take_is_one_read(rt: HostRuntime) {
+fn each_take_is_one_read() -> Result<(), Fail> {
     let mut reader = CountedReader::new(Script::new(&STEPS));
     for (row, (gave, bytes)) in TAKES.iter().enumerate() {
         let mut piece = [b'?'; 8];
-        assert_eq!(rt; reader.take(&mut piece), *gave, "row {row}");
-        assert!(rt; piece.starts_with(bytes), "row {row}");
+        same_at(row, reader.take(&mut piece), *gave)?;
+        holds_at(row, piece.starts_with(bytes))?;
     }
+    Ok(())
 }
 
 /// A read that fails in the second line of three.

@@ -2,6 +2,8 @@
 
 use crate::runs::{BROKEN, DONE, Ending, USAGE, ends, ends_over};
 use crate::script::Step;
+use alm_common_tests::holds_at;
+use std::test::Fail;
 
 /// The words of a desk.
 const DESK: &[u8] = b"alm_server\ndesk\n";
@@ -24,11 +26,12 @@ const WORDS: [&[u8]; 13] = [
 ];
 
 #[test]
-fn words_that_are_none_of_the_programs(rt: HostRuntime) {
+fn words_that_are_none_of_the_programs(rt: HostRuntime) -> Result<(), Fail> {
     for (row, words) in WORDS.iter().enumerate() {
         let same = ends(&rt, words, b"0 1 STATE 0\n", (USAGE, b"", b"fault usage\n"));
-        assert!(rt; same, "row {row}");
+        holds_at(row, same)?;
     }
+    Ok(())
 }
 
 /// What is printed of its version.
@@ -70,11 +73,12 @@ fn ends_behind(rt: &HostRuntime, steps: &[Step<'_>], length: usize, ending: Endi
 }
 
 #[test]
-fn a_reader_that_fails_is_a_fault_after_what_was_read(rt: HostRuntime) {
+fn a_reader_that_fails_is_a_fault_after_what_was_read(rt: HostRuntime) -> Result<(), Fail> {
     for (length, ending) in ENDS {
         let same = ends_behind(&rt, &FAILS, length, ending);
-        assert!(rt; same, "{length} steps");
+        holds_at(length, same)?;
     }
+    Ok(())
 }
 
 /// Three lines in three reads, and their replies of 10, 9 and 24 bytes.
@@ -90,7 +94,7 @@ const REPLIES: &[u8] = b"16 1 OK 1\n0 2 OK 2\n0 3 STATE 2 ACKED 1 - -\n";
 const TAKEN: [usize; 16] = [0, 3, 6, 9, 10, 13, 16, 19, 22, 25, 28, 31, 34, 37, 40, 43];
 
 #[test]
-fn a_failed_write_is_a_fault_at_each_write(rt: HostRuntime) {
+fn a_failed_write_is_a_fault_at_each_write(rt: HostRuntime) -> Result<(), Fail> {
     for (writes, taken) in TAKEN.iter().enumerate() {
         let printed = REPLIES.get(..*taken).unwrap_or(&[]);
         let ending = if *taken == REPLIES.len() {
@@ -99,6 +103,7 @@ fn a_failed_write_is_a_fault_at_each_write(rt: HostRuntime) {
             (BROKEN, printed, b"fault io\n".as_slice())
         };
         let same = ends_over(&rt, DESK, &LINES, writes, ending);
-        assert!(rt; same, "write {writes}");
+        holds_at(writes, same)?;
     }
+    Ok(())
 }

@@ -2,6 +2,7 @@
 
 use crate::process::Process;
 use crate::script::Script;
+use alm_common_tests::holds_at;
 use alm_program::{Fault, OwnedEndpoints, ServeOrder, run_words};
 
 /// The endpoints, the connections, the patience and the scrubs that a server is asked for.
@@ -18,6 +19,7 @@ enum Wanted<'a> {
 }
 
 use Wanted::{Nothing, Patient, Ports, Scrubbed, Sockets};
+use std::test::Fail;
 
 /// Words, and how the device `d` is to be served with them.
 const ASKED: [(&[u8], Wanted<'static>); 30] = [
@@ -100,8 +102,9 @@ fn is_asked(rt: &HostRuntime, words: &[u8], wanted: Wanted<'_>) -> bool {
 }
 
 #[test]
-fn a_server_is_asked_for_its_endpoints_and_its_options(rt: HostRuntime) {
+fn a_server_is_asked_for_its_endpoints_and_its_options(rt: HostRuntime) -> Result<(), Fail> {
     for (row, (words, wanted)) in ASKED.iter().enumerate() {
-        assert!(rt; is_asked(&rt, words, *wanted), "row {row}");
+        holds_at(row, is_asked(&rt, words, *wanted))?;
     }
+    Ok(())
 }

@@ -1,6 +1,7 @@
 //! What is shown of alarms that are shelved, flagged and off, on a device with longer segments.
 
 use crate::runs::{DONE, Run, first_wrong};
+use alm_common_tests::same;
 use std::fs;
 use std::test::Fail;
 
@@ -92,6 +93,6 @@ const RUNS: [Run; 3] = [
 #[test]
 fn alarms_are_shown_with_their_flags(rt: HostRuntime) -> Result<(), Fail> {
     fs::write(&rt, "long.toml", TABLE)?;
-    assert_eq!(rt; first_wrong(&rt, &RUNS), None);
+    same(first_wrong(&rt, &RUNS), None)?;
     Ok(())
 }

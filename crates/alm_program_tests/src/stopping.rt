@@ -3,6 +3,7 @@
 use crate::process::Process;
 use crate::runs::{BROKEN, DONE, Ending, MANY, is_status};
 use crate::script::{Script, Step};
+use alm_common_tests::holds_at;
 use alm_desk::{Backend, JudgedRequest, Stopped, worked_table};
 use alm_disk::MemDisk;
 use alm_keeper::format;
@@ -103,7 +104,7 @@ fn a_desk_goes_on_to_the_end_behind_a_storage_fault(rt: HostRuntime) -> Result<(
     ];
     for (calls, ending) in endings {
         let same = ends_by(&rt, calls, ending);
-        assert!(rt; same, "{calls} calls");
+        holds_at(calls, same)?;
     }
     Ok(())
 }

@@ -1,6 +1,8 @@
 //! Stories of the desk in memory, line by line.
 
 use crate::runs::{DONE, Run, first_wrong};
+use alm_common_tests::same;
+use std::test::Fail;
 
 /// A shelving that the clock ends, and the alarm that is annunciated again.
 const SHELVING: &[u8] = b"17 1 CLOCK 1000
@@ -144,6 +146,7 @@ const STORIES: [Run; 3] = [
 ];
 
 #[test]
-fn stories_are_told_as_they_should_be(rt: HostRuntime) {
-    assert_eq!(rt; first_wrong(&rt, &STORIES), None);
+fn stories_are_told_as_they_should_be(rt: HostRuntime) -> Result<(), Fail> {
+    same(first_wrong(&rt, &STORIES), None)?;
+    Ok(())
 }

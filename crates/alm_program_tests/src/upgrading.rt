@@ -2,6 +2,7 @@
 
 use crate::devices::{ALARMS, SHOWN, SIZES, write_file};
 use crate::runs::{DONE, Run, TABLE_FAULT, USAGE, first_wrong};
+use alm_common_tests::same;
 use std::fs;
 use std::test::Fail;
 
@@ -90,12 +91,12 @@ fn is_named(rt: &HostRuntime, name: &[u8]) -> Result<bool, Fail> {
 #[test]
 fn a_device_goes_to_version_03_and_back(rt: HostRuntime) -> Result<(), Fail> {
     write_file(&rt, "turned.toml", &[SIZES, ALARMS])?;
-    assert_eq!(rt; first_wrong(&rt, &BEGINS), None);
+    same(first_wrong(&rt, &BEGINS), None)?;
     assert!(rt; is_named(&rt, b"ALMSRV02")?);
-    assert_eq!(rt; first_wrong(&rt, &TURNS), None);
+    same(first_wrong(&rt, &TURNS), None)?;
     assert!(rt; is_named(&rt, b"ALMSRV03")?);
-    assert_eq!(rt; first_wrong(&rt, &RETURNS), None);
+    same(first_wrong(&rt, &RETURNS), None)?;
     assert!(rt; is_named(&rt, b"ALMSRV02")?);
-    assert_eq!(rt; first_wrong(&rt, &REFUSED), None);
+    same(first_wrong(&rt, &REFUSED), None)?;
     Ok(())
 }

@@ -2,6 +2,7 @@
 
 use crate::drawn_client::converse;
 use crate::ports::free_ports;
+use alm_common_tests::same;
 use alm_desk::worked_table;
 use alm_disk::Disk;
 use alm_file::{FileDisk, Unknown};
@@ -70,7 +71,7 @@ fn the_device_keeps_what_eighteen_clients_were_answered(rt: HostRuntime) -> Resu
     let mut output = Vec::new(alloc);
     let served = serve_run(&rt, alloc, disk, port, 18, &mut output);
     assert!(rt; clients.join(&rt)?);
-    assert_eq!(rt; notes.wrong.load(Ordering::SeqCst), 0);
+    same(notes.wrong.load(Ordering::SeqCst), 0)?;
     let disk = FileDisk::open(&rt, PATH, Unknown)?;
     let (count, is_kept) = kept::<Keeper<FileDisk<Unknown>>>(alloc, disk, &table, &notes).ok_or(
         "opening",

@@ -4,6 +4,7 @@ use crate::client::{asks, connect, gives};
 use crate::latch::Latch;
 use crate::one_sync::OneSync;
 use crate::ports::free_ports;
+use alm_common_tests::{holds_at, same, same_at};
 use alm_desk::worked_table;
 use alm_disk::{HeldDisk, MemDisk, OnceDisk};
 use alm_keeper::{OpenFault, format};
@@ -54,7 +55,7 @@ fn two_connections(rt: HostRuntime) -> Result<(), Fail> {
     let served = serve_run(&rt, rt.alloc(), disk, port, 2, &mut output);
     assert!(rt; served == Ok(2));
     let said = format!(in rt.alloc(); "serving {port}\nstopped 2\n")?;
-    assert_eq!(rt; output.as_slice(), said.as_bytes());
+    same(output.as_slice(), said.as_bytes())?;
     assert!(rt; clients.join(&rt)?);
     Ok(())
 }
@@ -168,7 +169,7 @@ fn clients_that_mean_no_good(rt: HostRuntime) -> Result<(), Fail> {
     let served = serve_run(&rt, rt.alloc(), disk, port, 4, &mut output);
     assert!(rt; served == Ok(0));
     let said = format!(in rt.alloc(); "serving {port}\nstopped 0\n")?;
-    assert_eq!(rt; output.as_slice(), said.as_bytes());
+    same(output.as_slice(), said.as_bytes())?;
     assert!(rt; clients.join(&rt)?);
     Ok(())
 }
@@ -197,7 +198,7 @@ fn a_connection_behind_a_lost_one(rt: HostRuntime) -> Result<(), Fail> {
     let served = serve_run(&rt, rt.alloc(), disk, port, 2, &mut output);
     assert!(rt; served == Ok(1));
     let said = format!(in rt.alloc(); "serving {port}\nstopped 1\n")?;
-    assert_eq!(rt; output.as_slice(), said.as_bytes());
+    same(output.as_slice(), said.as_bytes())?;
     assert!(rt; clients.join(&rt)?);
     Ok(())
 }
@@ -220,7 +221,7 @@ fn a_device_that_fails_while_it_is_served(rt: HostRuntime) -> Result<(), Fail> {
     let served = serve_run(&rt, rt.alloc(), disk, port, 1, &mut output);
     assert!(rt; served == Err(ServeFault::Storage));
     let said = format!(in rt.alloc(); "serving {port}\n")?;
-    assert_eq!(rt; output.as_slice(), said.as_bytes());
+    same(output.as_slice(), said.as_bytes())?;
     assert!(rt; clients.join(&rt)?);
     Ok(())
 }
@@ -234,11 +235,8 @@ fn a_device_that_fails_as_it_is_opened(rt: HostRuntime) -> Result<(), Fail> {
         let disk = OnceDisk::new(worked_disk(rt.alloc())?.ok_or("format")?, call);
         let mut output = Vec::new(rt.alloc());
         let served = serve_run(&rt, rt.alloc(), disk, port, 1, &mut output);
-        assert!(rt;
-            served == Err(ServeFault::Open(OpenFault::Disk)),
-            "call {call}"
-        );
-        assert!(rt; output.is_empty(), "call {call}");
+        holds_at(call, served == Err(ServeFault::Open(OpenFault::Disk)))?;
+        holds_at(call, output.is_empty())?;
     }
     drop(taken);
     Ok(())
@@ -255,10 +253,10 @@ fn a_device_that_fails_one_call_of_an_action(rt: HostRuntime) -> Result<(), Fail
         let clients = thread::spawn(&rt, move || unanswered_client(&rt, port))?;
         let mut output = Vec::new(rt.alloc());
         let served = serve_run(&rt, rt.alloc(), disk, port, 1, &mut output);
-        assert!(rt; served == Err(ServeFault::Storage), "call {call}");
+        holds_at(call, served == Err(ServeFault::Storage))?;
         let said = format!(in rt.alloc(); "serving {port}\n")?;
-        assert_eq!(rt; output.as_slice(), said.as_bytes(), "call {call}");
-        assert!(rt; clients.join(&rt)?, "call {call}");
+        same_at(call, output.as_slice(), said.as_bytes())?;
+        holds_at(call, clients.join(&rt)?)?;
     }
     Ok(())
 }

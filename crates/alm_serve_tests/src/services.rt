@@ -1,9 +1,9 @@
 //! Rows of a slot's service: one client after another, and each byte that goes out.
 
 use crate::one_slot::OneSlot;
+use alm_common_tests::{same, slot_of};
 use alm_serve::Served;
 use alm_session::MemWire;
-use alm_types::Slot;
 use std::alloc::{AllocError, Global};
 use std::test::Fail;
 
@@ -32,14 +32,14 @@ fn is_written(
 #[test]
 fn two_clients_in_a_row(rt: HostRuntime) -> Result<(), Fail> {
     let alloc = rt.alloc();
-    let mut slot = OneSlot::new(alloc, Slot::new(0).ok_or("slot")?)?;
+    let mut slot = OneSlot::new(alloc, slot_of(0)?)?;
     let first = b"7 ACK 0\n8 STATE 1\n9 ST";
     let replies = b"7 NO 2\n8 STATE 0 NORM 0 - -\n";
     assert!(rt; is_written(alloc, &mut slot, first, replies)?);
     let second = b"1 STATE 0\n2 ACK 1\nx\n";
     let replies = b"1 STATE 0 NORM 0 - -\n2 NO 2\n0 NO 13\n";
     assert!(rt; is_written(alloc, &mut slot, second, replies)?);
-    assert_eq!(rt; slot.sent(), 2);
+    same(slot.sent(), 2)?;
     Ok(())
 }
 
@@ -48,20 +48,20 @@ fn two_clients_in_a_row(rt: HostRuntime) -> Result<(), Fail> {
 #[test]
 fn a_client_behind_one_that_was_cut_off(rt: HostRuntime) -> Result<(), Fail> {
     let alloc = rt.alloc();
-    let mut slot = OneSlot::new(alloc, Slot::new(3).ok_or("slot")?)?;
+    let mut slot = OneSlot::new(alloc, slot_of(3)?)?;
     assert!(rt; slot.begin(wire_of(alloc, b"7 ACK 0\n8 ACK 1\n9 STA", 4)?));
     assert!(rt; matches!(slot.go_on(), Served::Idle));
     slot.answer();
     assert!(rt; matches!(slot.go_on(), Served::Idle));
     let cut = slot.close().ok_or("wire")?;
-    assert_eq!(rt; cut.output(), b"7 NO".as_slice());
+    same(cut.output(), b"7 NO".as_slice())?;
     assert!(rt; matches!(slot.go_on(), Served::Idle));
     assert!(rt; !slot.begin(wire_of(alloc, b"1 STATE 0\n", 1000)?));
     slot.answer();
     assert!(rt; matches!(slot.go_on(), Served::Over));
     let replies = b"1 STATE 0 NORM 0 - -\n2 NO 2\n";
     assert!(rt; is_written(alloc, &mut slot, b"1 STATE 0\n2 ACK 0\n", replies)?);
-    assert_eq!(rt; slot.sent(), 3);
+    same(slot.sent(), 3)?;
     Ok(())
 }
 
@@ -69,22 +69,22 @@ fn a_client_behind_one_that_was_cut_off(rt: HostRuntime) -> Result<(), Fail> {
 #[test]
 fn clients_that_ask_nothing(rt: HostRuntime) -> Result<(), Fail> {
     let alloc = rt.alloc();
-    let mut slot = OneSlot::new(alloc, Slot::new(16).ok_or("slot")?)?;
+    let mut slot = OneSlot::new(alloc, slot_of(16)?)?;
     for lines in [b"".as_slice(), b"5 VAL 0 800".as_slice(), b"".as_slice()] {
         assert!(rt; is_written(alloc, &mut slot, lines, b"")?);
     }
-    assert_eq!(rt; slot.sent(), 0);
+    same(slot.sent(), 0)?;
     Ok(())
 }
 
 /// Without a client there is nothing to do. One whose connection couldn't be had is over at once.
 #[test]
 fn no_client(rt: HostRuntime) -> Result<(), Fail> {
-    let mut slot = OneSlot::new(rt.alloc(), Slot::new(0).ok_or("slot")?)?;
+    let mut slot = OneSlot::new(rt.alloc(), slot_of(0)?)?;
     assert!(rt; matches!(slot.go_on(), Served::Idle));
     assert!(rt; slot.close().is_none());
     assert!(rt; matches!(slot.go_on(), Served::Over));
     assert!(rt; matches!(slot.go_on(), Served::Idle));
-    assert_eq!(rt; slot.sent(), 0);
+    same(slot.sent(), 0)?;
     Ok(())
 }

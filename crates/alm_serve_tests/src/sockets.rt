@@ -2,6 +2,7 @@
 
 use crate::client::asks;
 use crate::rows::worked_disk;
+use alm_common_tests::same;
 use alm_serve::{ServeFault, serve_sockets};
 use alm_wake::Healing;
 use std::fs::{self, File, Files};
@@ -86,7 +87,7 @@ fn two_connections_at_sockets(rt: HostRuntime) -> Result<(), Fail> {
         .served;
         assert!(rt; served == Ok(2));
         let said = format!(in rt.alloc(); "serving {folder}\nstopped 2\n")?;
-        assert_eq!(rt; output.as_slice(), said.as_bytes());
+        same(output.as_slice(), said.as_bytes())?;
         assert!(rt; clients.join(&rt)?);
         assert!(rt; has_sockets(&rt, folder)?);
     }
@@ -137,7 +138,7 @@ fn what_is_no_dead_socket_stays(rt: HostRuntime) -> Result<(), Fail> {
     assert!(rt; is_refused(&rt, folder)?);
     assert!(rt; listener.accept().is_ok());
     let found = fs::read_dir(&rt, folder)?.count();
-    assert_eq!(rt; found, 2);
+    same(found, 2)?;
     fs::remove_dir_all(&rt, folder)?;
     Ok(())
 }
@@ -158,7 +159,7 @@ fn folders_without_sockets(rt: HostRuntime) -> Result<(), Fail> {
     let held = File::open(&rt, folder)?;
     held.try_lock().map_err(io::Error::from)?;
     assert!(rt; is_refused(&rt, folder)?);
-    assert_eq!(rt; fs::read_dir(&rt, folder)?.count(), 0);
+    same(fs::read_dir(&rt, folder)?.count(), 0)?;
     fs::remove_dir(&rt, folder)?;
     Ok(())
 }

@@ -2,6 +2,7 @@
 
 use crate::piece_wire::PieceWire;
 use crate::playing::{Course, play, worked_look};
+use alm_common_tests::{holds_at, same, slot_of};
 use alm_rings::open_slot;
 use alm_session::{MemWire, Session, Turn};
 use alm_types::Slot;
@@ -29,7 +30,7 @@ fn replies_to(alloc: Global, slot: Slot, input: &[u8]) -> Result<Vec<u8>, AllocE
 /// Lines that are nearly right.
 #[test]
 fn bad_lines(rt: HostRuntime) -> Result<(), Fail> {
-    let slot = Slot::new(0).ok_or("slot")?;
+    let slot = slot_of(0)?;
     let rows: [(&[u8], &[u8]); 10] = [
         (b"5 ACK 00\n", b"5 NO 13\n"),
         (b"5 ACK  0\n", b"5 NO 13\n"),
@@ -43,7 +44,7 @@ fn bad_lines(rt: HostRuntime) -> Result<(), Fail> {
         (b"7\n", b"7 NO 13\n"),
     ];
     for (line, reply) in rows {
-        assert_eq!(rt; replies_to(rt.alloc(), slot, line)?.as_slice(), reply);
+        same(replies_to(rt.alloc(), slot, line)?.as_slice(), reply)?;
     }
     Ok(())
 }
@@ -75,7 +76,7 @@ fn over_memory(
 #[test]
 fn a_line_without_end(rt: HostRuntime) -> Result<(), Fail> {
     let alloc = rt.alloc();
-    let slot = Slot::new(0).ok_or("slot")?;
+    let slot = slot_of(0)?;
     let mut input = vec![in alloc; b'A'; 1_000_000]?;
     input.extend_from_slice(b"\n1 STATE 0\n")?;
     let (course, output) = over_memory(alloc, slot, input, 1000)?;
@@ -84,11 +85,11 @@ fn a_line_without_end(rt: HostRuntime) -> Result<(), Fail> {
         idle: 0,
         answers: 0,
     };
-    assert_eq!(rt; course, ended);
-    assert_eq!(rt;
+    same(course, ended)?;
+    same(
         output.as_slice(),
-        b"0 NO 14\n1 STATE 0 NORM 0 - -\n".as_slice()
-    );
+        b"0 NO 14\n1 STATE 0 NORM 0 - -\n".as_slice(),
+    )?;
     Ok(())
 }
 
@@ -96,7 +97,7 @@ fn a_line_without_end(rt: HostRuntime) -> Result<(), Fail> {
 #[test]
 fn a_client_that_never_reads(rt: HostRuntime) -> Result<(), Fail> {
     let alloc = rt.alloc();
-    let slot = Slot::new(0).ok_or("slot")?;
+    let slot = slot_of(0)?;
     for line in ["x\n", "7 ACK 0\n", "1 STATE 0\n"] {
         let (mut console, mut inbox, mut outbox) = open_slot(alloc, slot)?;
         let mut look = worked_look(alloc)?;
@@ -114,9 +115,9 @@ fn a_client_that_never_reads(rt: HostRuntime) -> Result<(), Fail> {
             &mut inbox,
             &mut outbox,
         );
-        assert_eq!(rt; course.last, Turn::Idle);
-        assert!(rt; wire.given() <= 4096, "{line}");
-        assert!(rt; course.answers <= 64, "{line}");
+        same(course.last, Turn::Idle)?;
+        holds_at(line, wire.given() <= 4096)?;
+        holds_at(line, course.answers <= 64)?;
         assert!(rt; wire.output().is_empty());
     }
     Ok(())
@@ -126,10 +127,10 @@ fn a_client_that_never_reads(rt: HostRuntime) -> Result<(), Fail> {
 #[test]
 fn no_room(rt: HostRuntime) -> Result<(), Fail> {
     let alloc = rt.alloc();
-    let slot = Slot::new(0).ok_or("slot")?;
+    let slot = slot_of(0)?;
     let input = Vec::from_slice(alloc, b"1 STATE 0\n".as_slice())?;
     let (course, output) = over_memory(alloc, slot, input, 5)?;
-    assert_eq!(rt; course.last, Turn::Idle);
-    assert_eq!(rt; output.as_slice(), b"1 STA".as_slice());
+    same(course.last, Turn::Idle)?;
+    same(output.as_slice(), b"1 STA".as_slice())?;
     Ok(())
 }

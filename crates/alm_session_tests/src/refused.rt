@@ -2,6 +2,7 @@
 //! so what was refused is made the second time: a maker that always gives up doesn't pass.
 
 use crate::rows::is_answered;
+use alm_common_tests::{same, slot_of};
 use alm_desk::{LocalDesk, worked_table};
 use alm_model::{Alarms, PlainPlant};
 use alm_types::Slot;
@@ -23,7 +24,7 @@ fn answers(alloc: Global, slot: Slot) -> Result<bool, AllocError> {
 #[test]
 fn a_session_is_made_whole_or_not_at_all(rt: HostRuntime) -> Result<(), Fail> {
     let alloc = rt.alloc();
-    let slot = Slot::new(0).ok_or("slot")?;
+    let slot = slot_of(0)?;
     let answered = match answers(alloc, slot) {
         Ok(answered) => answered,
         Err(_) => answers(alloc, slot)?,
@@ -39,6 +40,6 @@ fn a_desk_is_made_whole_or_not_at_all(rt: HostRuntime) -> Result<(), Fail> {
         Ok(desk) => desk,
         Err(_) => desk(alloc)?,
     };
-    assert_eq!(rt; desk.backend().count(), 0);
+    same(desk.backend().count(), 0)?;
     Ok(())
 }

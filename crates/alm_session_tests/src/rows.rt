@@ -5,11 +5,12 @@ ghost use Rattle.alm_rings.specs.Ends.{SameConsole};
 use crate::piece_wire::PieceWire;
 use crate::playing::{Course, answer, play, worked_look};
 use crate::still::{StillLook, StillTold};
+use alm_common_tests::{holds_at, moment_of, reading_of, same, slot_of};
 use alm_events::Recalled;
 use alm_model::PlainPlant;
 use alm_rings::{Console, open_slot};
 use alm_session::{MemWire, Output, Sent, Session, Turn, Wire, drain};
-use alm_types::{Action, AlarmId, Event, Moment, Reading, Slot, Want};
+use alm_types::{Action, AlarmId, Event, Slot, Want};
 use std::alloc::{AllocError, Global};
 use std::test::Fail;
 
@@ -58,7 +59,7 @@ pub fn is_answered(
 #[test]
 fn a_query_and_the_end(rt: HostRuntime) -> Result<(), Fail> {
     let alloc = rt.alloc();
-    let slot = Slot::new(0).ok_or("slot")?;
+    let slot = slot_of(0)?;
     let (mut console, mut inbox, mut outbox) = open_slot(alloc, slot)?;
     let mut look = worked_look(alloc)?;
     let mut session = Session::new(alloc)?;
@@ -76,8 +77,8 @@ fn a_query_and_the_end(rt: HostRuntime) -> Result<(), Fail> {
         idle: 0,
         answers: 0,
     };
-    assert_eq!(rt; course, ended);
-    assert_eq!(rt; wire.output(), b"1 STATE 0 NORM 0 - -\n".as_slice());
+    same(course, ended)?;
+    same(wire.output(), b"1 STATE 0 NORM 0 - -\n".as_slice())?;
     Ok(())
 }
 
@@ -85,11 +86,11 @@ fn a_query_and_the_end(rt: HostRuntime) -> Result<(), Fail> {
 #[test]
 fn replies_in_order_for_each_cut(rt: HostRuntime) -> Result<(), Fail> {
     let alloc = rt.alloc();
-    let slot = Slot::new(0).ok_or("slot")?;
+    let slot = slot_of(0)?;
     for piece in 1..=LINES.len() {
         for room in [1, 7, 200] {
             let same = is_answered(alloc, slot, LINES, REPLIES, piece, room)?;
-            assert!(rt; same, "{piece} {room}");
+            holds_at((piece, room), same)?;
         }
     }
     Ok(())
@@ -99,7 +100,7 @@ fn replies_in_order_for_each_cut(rt: HostRuntime) -> Result<(), Fail> {
 #[test]
 fn a_query_waits_for_actions(rt: HostRuntime) -> Result<(), Fail> {
     let alloc = rt.alloc();
-    let slot = Slot::new(0).ok_or("slot")?;
+    let slot = slot_of(0)?;
     let (mut console, mut inbox, mut outbox) = open_slot(alloc, slot)?;
     let mut look = worked_look(alloc)?;
     let mut session = Session::new(alloc)?;
@@ -117,8 +118,8 @@ fn a_query_waits_for_actions(rt: HostRuntime) -> Result<(), Fail> {
         idle: 3,
         answers: 3,
     };
-    assert_eq!(rt; course, ended);
-    assert_eq!(rt; wire.output(), REPLIES.as_bytes());
+    same(course, ended)?;
+    same(wire.output(), REPLIES.as_bytes())?;
     Ok(())
 }
 
@@ -145,15 +146,15 @@ fn five_turns<W: Wire>(
 #[test]
 fn a_lost_connection(rt: HostRuntime) -> Result<(), Fail> {
     let alloc = rt.alloc();
-    let slot = Slot::new(0).ok_or("slot")?;
+    let slot = slot_of(0)?;
     let (mut console, mut inbox, mut outbox) = open_slot(alloc, slot)?;
     let mut look = worked_look(alloc)?;
     let mut session = Session::new(alloc)?;
     let mut wire = MemWire::new(alloc, bytes(alloc, "7 ACK 0\n8 ACK 1\n9 ACK 1\n1 ST")?, 200)?;
-    assert_eq!(rt;
+    same(
         five_turns(&mut session, &mut wire, &mut console, &mut look),
-        [Turn::Went, Turn::Went, Turn::Went, Turn::Went, Turn::Idle]
-    );
+        [Turn::Went, Turn::Went, Turn::Went, Turn::Went, Turn::Idle],
+    )?;
     answer(&mut console, &mut inbox, &mut outbox, 1);
     answer(&mut console, &mut inbox, &mut outbox, 2);
     assert!(rt; !drain(&mut console, &mut look));
@@ -169,8 +170,8 @@ fn a_lost_connection(rt: HostRuntime) -> Result<(), Fail> {
         &mut inbox,
         &mut outbox,
     );
-    assert_eq!(rt; course.last, Turn::Ended);
-    assert_eq!(rt; wire.output(), b"1 STATE 0 NORM 0 - -\n".as_slice());
+    same(course.last, Turn::Ended)?;
+    same(wire.output(), b"1 STATE 0 NORM 0 - -\n".as_slice())?;
     assert!(rt; console.send(Want::Do(Action::Ack(AlarmId(0)))) == Ok(4));
     Ok(())
 }
@@ -179,7 +180,7 @@ fn a_lost_connection(rt: HostRuntime) -> Result<(), Fail> {
 #[test]
 fn a_receipt_of_another_request(rt: HostRuntime) -> Result<(), Fail> {
     let alloc = rt.alloc();
-    let slot = Slot::new(0).ok_or("slot")?;
+    let slot = slot_of(0)?;
     let (mut console, mut inbox, mut outbox) = open_slot(alloc, slot)?;
     let mut look = worked_look(alloc)?;
     let mut session = Session::new(alloc)?;
@@ -187,10 +188,10 @@ fn a_receipt_of_another_request(rt: HostRuntime) -> Result<(), Fail> {
     let _ = five_turns(&mut session, &mut wire, &mut console, &mut look);
     answer(&mut console, &mut inbox, &mut outbox, 2);
     let _ = five_turns(&mut session, &mut wire, &mut console, &mut look);
-    assert_eq!(rt; wire.output(), b"".as_slice());
+    same(wire.output(), b"".as_slice())?;
     answer(&mut console, &mut inbox, &mut outbox, 1);
     let _ = five_turns(&mut session, &mut wire, &mut console, &mut look);
-    assert_eq!(rt; wire.output(), b"7 NO 2\n".as_slice());
+    same(wire.output(), b"7 NO 2\n".as_slice())?;
     Ok(())
 }
 
@@ -198,7 +199,7 @@ fn a_receipt_of_another_request(rt: HostRuntime) -> Result<(), Fail> {
 #[test]
 fn as_many_as_the_slot_takes(rt: HostRuntime) -> Result<(), Fail> {
     let alloc = rt.alloc();
-    let slot = Slot::new(3).ok_or("slot")?;
+    let slot = slot_of(3)?;
     let mut lines = String::new(alloc);
     let mut replies = String::new(alloc);
     for _line in 0..200 {
@@ -212,7 +213,7 @@ fn as_many_as_the_slot_takes(rt: HostRuntime) -> Result<(), Fail> {
 /// The plant and an alarm's attributes, in pieces of one byte.
 #[test]
 fn a_plant_and_its_attributes(rt: HostRuntime) -> Result<(), Fail> {
-    let slot = Slot::new(16).ok_or("slot")?;
+    let slot = slot_of(16)?;
     let lines = "5 PLANT\n6 ATTR 2\n4294967295 ATTR 4\n7 ATTR 1\n";
     let replies =
         "5 PLANT 0 0 4 2\n6 ATTR 0 DISCRETE 1 0 1 1 0 ON XS-201\n4294967295 NO 1\n7 ATTR 0 LOW 100 5 2 0 3600 OFF PI-102\n";
@@ -223,7 +224,7 @@ fn a_plant_and_its_attributes(rt: HostRuntime) -> Result<(), Fail> {
 /// Nothing has happened at a plant without an action, and an acknowledgement with a stamp is an action as any other.
 #[test]
 fn nothing_happened(rt: HostRuntime) -> Result<(), Fail> {
-    let slot = Slot::new(5).ok_or("slot")?;
+    let slot = slot_of(5)?;
     let lines =
         "7 SINCE\n8 ACK 0 3\n9 SINCE 0\n10 SINCE 281474976710656\n11 SINCE 281474976710657\n";
     let replies = "7 SINCE 0 1 0\n8 NO 2\n9 SINCE 0 1 0\n10 SINCE 0 281474976710657 0\n11 NO 13\n";
@@ -237,9 +238,9 @@ fn nothing_happened(rt: HostRuntime) -> Result<(), Fail> {
 #[test]
 fn what_happened_is_told(rt: HostRuntime) -> Result<(), Fail> {
     let alloc = rt.alloc();
-    let moment = Moment::new(1_700_000_000).ok_or("moment")?;
-    let (clock, console) = (Slot::new(17).ok_or("slot")?, Slot::new(4).ok_or("slot")?);
-    let setpoint = Reading::new(-12).ok_or("reading")?;
+    let moment = moment_of(1_700_000_000)?;
+    let (clock, console) = (slot_of(17)?, slot_of(4)?);
+    let setpoint = reading_of(-12)?;
     let events = [
         Event {
             moment,
@@ -262,18 +263,18 @@ fn what_happened_is_told(rt: HostRuntime) -> Result<(), Fail> {
         &events,
     );
     let mut wire = MemWire::new(alloc, Vec::new(alloc), 200)?;
-    assert_eq!(rt; output.write(&mut wire), Sent::Some);
-    assert_eq!(rt;
+    same(output.write(&mut wire), Sent::Some)?;
+    same(
         wire.output(),
-        b"9 SINCE 12 5 2 1700000000 17 CLOCK 1700000000 1700000000 4 SETP 16383 -12\n".as_slice()
-    );
+        b"9 SINCE 12 5 2 1700000000 17 CLOCK 1700000000 1700000000 4 SETP 16383 -12\n".as_slice(),
+    )?;
     Ok(())
 }
 
 /// Bytes after the last line end are no line.
 #[test]
 fn no_line_without_its_end(rt: HostRuntime) -> Result<(), Fail> {
-    let slot = Slot::new(0).ok_or("slot")?;
+    let slot = slot_of(0)?;
     assert!(rt; is_answered(rt.alloc(), slot, "", "", 1, 1)?);
     assert!(rt; is_answered(rt.alloc(), slot, "5 ACK 0", "", 1, 1)?);
     assert!(rt;

@@ -1,6 +1,7 @@
 //! As many alarms as a plant may have, and one more.
 
 use crate::outcome::{Outcome, becomes, joined};
+use alm_common_tests::same;
 use alm_table::table_of;
 use std::alloc::Global;
 use std::test::Fail;
@@ -22,8 +23,8 @@ fn there_may_be_16384_alarms(rt: HostRuntime) -> Result<(), Fail> {
     let alloc = rt.alloc();
     let text = file(alloc, 16_384)?;
     let (size, table) = table_of(alloc, text.as_str().as_bytes()).map_err(|_| "refused")?;
-    assert_eq!(rt; size, 1 << 40);
-    assert_eq!(rt; table.alarms().len(), 16_384);
+    same(size, 1 << 40)?;
+    same(table.alarms().len(), 16_384)?;
     let text = file(alloc, 16_385)?;
     // Their number is at fault before a key of one of them.
     assert!(rt; becomes(alloc, &[text.as_str(), "prio = 1\n"], Outcome::Rows)?);

@@ -1,6 +1,7 @@
 //! Out of memory: run with each allocation refused in turn (`rt try --test --fail-alloc N`), this passes. One is refused at most,
 //! so what was refused is read the second time: a reader that always gives up doesn't pass.
 
+use alm_common_tests::same;
 use alm_table::{LoadFault, table_of};
 use alm_types::Table;
 use std::alloc::Global;
@@ -29,8 +30,8 @@ fn a_table_is_read_whole_or_not_at_all(rt: HostRuntime) -> Result<(), Fail> {
     let Some((size, table)) = said else {
         return Err("refused twice".into());
     };
-    assert_eq!(rt; size, 28_997);
-    assert_eq!(rt; table.areas(), 2);
-    assert_eq!(rt; table.alarms().len(), 1);
+    same(size, 28_997)?;
+    same(table.areas(), 2)?;
+    same(table.alarms().len(), 1)?;
     Ok(())
 }

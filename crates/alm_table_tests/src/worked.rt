@@ -1,6 +1,7 @@
 //! A file of four alarms.
 
 use crate::outcome::joined;
+use alm_common_tests::same;
 use alm_desk::worked_table;
 use alm_table::table_of;
 use alm_types::{Attr, Kind};
@@ -35,13 +36,13 @@ fn the_worked_table_as_a_file(rt: HostRuntime) -> Result<(), Fail> {
     let text = joined(alloc, &WORKED)?;
     let (size, table) = table_of(alloc, text.as_str().as_bytes()).map_err(|_| "refused")?;
     let worked = worked_table(alloc)?;
-    assert_eq!(rt; size, 28_997);
-    assert_eq!(rt; table.areas(), worked.areas());
-    assert_eq!(rt; table.alarms().len(), worked.alarms().len());
+    same(size, 28_997)?;
+    same(table.areas(), worked.areas())?;
+    same(table.alarms().len(), worked.alarms().len())?;
     for (found, wanted) in table.alarms().iter().zip(worked.alarms()) {
-        assert_eq!(rt; row(found), row(wanted));
-        assert_eq!(rt; found.tag.as_bytes(), wanted.tag.as_bytes());
-        assert_eq!(rt; found.text.as_bytes(), wanted.text.as_bytes());
+        same(row(found), row(wanted))?;
+        same(found.tag.as_bytes(), wanted.tag.as_bytes())?;
+        same(found.text.as_bytes(), wanted.text.as_bytes())?;
     }
     Ok(())
 }
@@ -64,18 +65,18 @@ fn each_attribute_is_that_of_the_file(rt: HostRuntime) -> Result<(), Fail> {
     let alloc = rt.alloc();
     let text = joined(alloc, &[SIZES, TEMPERATURE, PRESSURE, SWITCH, LEVEL])?;
     let (size, table) = table_of(alloc, text.as_str().as_bytes()).map_err(|_| "refused")?;
-    assert_eq!(rt; size, 28_997);
-    assert_eq!(rt; table.areas(), 2);
+    same(size, 28_997)?;
+    same(table.areas(), 2)?;
     let [temperature, pressure, switch, level] = table.alarms() else {
         return Err("alarms".into());
     };
-    assert_eq!(rt; row(temperature), (Kind::High, 800, 10, 1, 0, false, 3600));
-    assert_eq!(rt; row(pressure), (Kind::Low, 100, 5, 2, 0, false, 3600));
-    assert_eq!(rt; row(switch), (Kind::Discrete, 1, 0, 1, 1, true, 0));
-    assert_eq!(rt; row(level), (Kind::High, -50, 0, 3, 1, false, 0));
-    assert_eq!(rt; temperature.tag.as_bytes(), b"TI-101".as_slice());
-    assert_eq!(rt; temperature.text.as_bytes(), b"Reactor, hot".as_slice());
-    assert_eq!(rt; level.tag.as_bytes(), b"LI-202".as_slice());
-    assert_eq!(rt; level.text.as_bytes(), b"".as_slice());
+    same(row(temperature), (Kind::High, 800, 10, 1, 0, false, 3600))?;
+    same(row(pressure), (Kind::Low, 100, 5, 2, 0, false, 3600))?;
+    same(row(switch), (Kind::Discrete, 1, 0, 1, 1, true, 0))?;
+    same(row(level), (Kind::High, -50, 0, 3, 1, false, 0))?;
+    same(temperature.tag.as_bytes(), b"TI-101".as_slice())?;
+    same(temperature.text.as_bytes(), b"Reactor, hot".as_slice())?;
+    same(level.tag.as_bytes(), b"LI-202".as_slice())?;
+    same(level.text.as_bytes(), b"".as_slice())?;
     Ok(())
 }

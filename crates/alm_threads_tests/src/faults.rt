@@ -5,6 +5,7 @@ use crate::course::{Left, run_on};
 use crate::devices::formatted;
 use crate::folds::{Accepted, reopened};
 use crate::notes::Notes;
+use alm_common_tests::{holds_at, same_at, slot_of};
 use alm_desk::worked_table;
 use alm_disk::{Free, MemDisk, OnceDisk};
 use alm_keeper::Keeper;
@@ -78,28 +79,28 @@ const CALLS: [u64; 9] = [7, 8, 9, 10, 11, 22, 33, 44, 55];
 fn what_was_answered_is_kept_where_a_call_fails(rt: HostRuntime) -> Result<(), Fail> {
     for call in CALLS {
         let found = run_failing(&rt, rt.alloc(), None, call).ok_or("run")?;
-        assert_eq!(rt;
+        same_at(
+            call,
             (found.storage, found.cause, found.wrong),
             (Storage::Stopped, Some(StopCause::Store), 0),
-            "call {call}"
-        );
-        assert!(rt; found.told <= found.count, "call {call}");
+        )?;
+        holds_at(call, found.told <= found.count)?;
     }
     Ok(())
 }
 
 #[test]
 fn a_prefix_of_what_was_accepted_is_kept_where_a_call_fails(rt: HostRuntime) -> Result<(), Fail> {
-    let feed = Slot::new(16).ok_or("slot")?;
+    let feed = slot_of(16)?;
     for call in CALLS {
         let found = run_failing(&rt, rt.alloc(), Some(feed), call).ok_or("run")?;
-        assert_eq!(rt;
+        same_at(
+            call,
             (found.storage, found.cause, found.wrong),
             (Storage::Stopped, Some(StopCause::Store), 0),
-            "call {call}"
-        );
-        assert!(rt; found.told <= found.count, "call {call}");
-        assert!(rt; found.is_fold, "call {call}");
+        )?;
+        holds_at(call, found.told <= found.count)?;
+        holds_at(call, found.is_fold)?;
     }
     Ok(())
 }

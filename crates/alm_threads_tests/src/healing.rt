@@ -2,6 +2,7 @@
 
 use crate::devices::formatted;
 use crate::refusals::told_on;
+use alm_common_tests::same;
 use alm_desk::worked_table;
 use alm_disk::MemDisk;
 use alm_keeper::Keeper;
@@ -29,14 +30,14 @@ fn left<R: Wait>(rt: &R, alloc: Global, healing: &Healing) -> Result<(u64, u64, 
 fn the_flusher_opens_it(rt: HostRuntime) -> Result<(), Fail> {
     let healing = Healing::new();
     healing.ask();
-    assert_eq!(rt; left(&rt, rt.alloc(), &healing)?, (2, 1, false));
+    same(left(&rt, rt.alloc(), &healing)?, (2, 1, false))?;
     // Noted before its last turn.
-    assert_eq!(rt; healing.stored(), 1);
+    same(healing.stored(), 1)?;
     Ok(())
 }
 
 #[test]
 fn nobody_asks_for_it(rt: HostRuntime) -> Result<(), Fail> {
-    assert_eq!(rt; left(&rt, rt.alloc(), &Healing::new())?, (1, 1, false));
+    same(left(&rt, rt.alloc(), &Healing::new())?, (1, 1, false))?;
     Ok(())
 }

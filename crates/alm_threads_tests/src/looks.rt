@@ -4,6 +4,7 @@ ghost use Rattle.alm_moments.specs.Naming.{IsNamedAfter};
 
 use crate::devices::formatted;
 use alm_board::{Look, Recall};
+use alm_common_tests::same;
 use alm_desk::worked_table;
 use alm_disk::MemDisk;
 use alm_events::{MOST_TOLD, Recalled};
@@ -106,7 +107,7 @@ fn a_look_after_the_owner_is_gone(rt: HostRuntime) -> Result<(), Fail> {
     let table = worked_table(rt.alloc())?;
     let disk = formatted(rt.alloc(), &table).ok_or("formatted")?;
     let answered = answered_by::<Keeper<MemDisk>, _>(&rt, rt.alloc(), disk);
-    assert_eq!(rt; answered, Some((8, 17)));
+    same(answered, Some((8, 17)))?;
     Ok(())
 }
 
@@ -190,6 +191,6 @@ fn nothing_has_happened_and_then_the_owner_is_gone(rt: HostRuntime) -> Result<()
         nothing_before(u64::MAX),
         Err(Refusal::Stopped),
     ];
-    assert_eq!(rt; recalled, Some((told, 0)));
+    same(recalled, Some((told, 0)))?;
     Ok(())
 }

@@ -5,6 +5,7 @@ use crate::course::{Left, run_on};
 use crate::devices::formatted;
 use crate::folds::{Accepted, reopened};
 use crate::notes::Notes;
+use alm_common_tests::{holds_at, same_at, slot_of};
 use alm_desk::worked_table;
 use alm_disk::{Chooser, Crashable, Free, FuseDisk, MemDisk};
 use alm_keeper::Keeper;
@@ -104,35 +105,25 @@ fn what_was_told_is_there_after_a_power_failure(rt: HostRuntime) -> Result<(), F
     for run in 0..RUNS {
         let calls = calls_of(run);
         let found = run_until(&rt, rt.alloc(), None, calls).ok_or("run")?;
-        assert_eq!(rt; found.wrong, 0, "{calls} calls");
-        assert!(rt;
-            found.told <= found.count,
-            "{calls} calls: {} of {}",
-            found.count,
-            found.told
-        );
+        same_at(calls, found.wrong, 0)?;
+        holds_at((calls, found.count, found.told), found.told <= found.count)?;
         if found.are_known {
-            assert!(rt; found.is_fold, "{calls} calls");
+            holds_at(calls, found.is_fold)?;
             judged = judged.wrapping_add(1);
         }
     }
-    assert!(rt; judged >= RUNS / 4, "{judged} plants are known");
+    holds_at(judged, judged >= RUNS / 4)?;
     Ok(())
 }
 
 #[test]
 fn a_prefix_of_what_was_accepted_stands_after_a_power_failure(rt: HostRuntime) -> Result<(), Fail> {
-    let feed = Slot::new(16).ok_or("slot")?;
+    let feed = slot_of(16)?;
     for run in 0..RUNS {
         let calls = calls_of(run);
         let found = run_until(&rt, rt.alloc(), Some(feed), calls).ok_or("run")?;
-        assert!(rt;
-            found.told <= found.count,
-            "{calls} calls: {} of {}",
-            found.count,
-            found.told
-        );
-        assert!(rt; found.is_fold, "{calls} calls");
+        holds_at((calls, found.count, found.told), found.told <= found.count)?;
+        holds_at(calls, found.is_fold)?;
     }
     Ok(())
 }

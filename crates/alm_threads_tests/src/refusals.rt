@@ -5,6 +5,7 @@ ghost use Rattle.alm_moments.specs.Naming.{IsNamedAfter};
 
 use crate::devices::formatted;
 use alm_board::{Board, PlainBoard, PlainTold, Publish, Voucher};
+use alm_common_tests::same_at;
 use alm_desk::worked_table;
 use alm_disk::MemDisk;
 use alm_history::NewHistory;
@@ -173,11 +174,7 @@ fn a_publish_is_tried_a_thousand_times(rt: HostRuntime) -> Result<(), Fail> {
         (999, (Some(1), false)),
         (1000, (None, true)),
     ] {
-        assert_eq!(rt;
-            told_on_new(&rt, rt.alloc(), refusals),
-            Some(told),
-            "{refusals} refusals"
-        );
+        same_at(refusals, told_on_new(&rt, rt.alloc(), refusals), Some(told))?;
     }
     Ok(())
 }

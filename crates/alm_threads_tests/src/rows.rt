@@ -6,13 +6,14 @@ use crate::devices::formatted;
 use crate::gate::Gate;
 use crate::notes::Notes;
 use crate::script::Step;
+use alm_common_tests::{moment_of, reading_of, same};
 use alm_desk::worked_table;
 use alm_disk::{HeldDisk, MemDisk};
 use alm_keeper::Keeper;
 use alm_rings::SlotReport;
 use alm_store::Store;
 use alm_threads::Storage;
-use alm_types::{Action, AlarmId, Moment, Reading, Shown};
+use alm_types::{Action, AlarmId, Shown};
 use std::alloc::Global;
 use std::sync::atomic::Ordering;
 use std::sync::{Arc, Wait};
@@ -141,7 +142,7 @@ fn whole(count: u64) -> Found {
 #[test]
 fn a_look_shows_what_the_receipt_told(rt: HostRuntime) -> Result<(), Fail> {
     let alarm = AlarmId(0);
-    let hot = Reading::new(800).ok_or("reading")?;
+    let hot = reading_of(800)?;
     let steps = [
         (16, Step::Send(Action::Value(alarm, hot))),
         (0, Step::Await(alarm, Shown::Unack)),
@@ -157,13 +158,13 @@ fn a_look_shows_what_the_receipt_told(rt: HostRuntime) -> Result<(), Fail> {
         slots: [0, 16],
     };
     let found = play(&rt, rt.alloc(), &row).ok_or("run")?;
-    assert_eq!(rt; found, whole(2));
+    same(found, whole(2))?;
     Ok(())
 }
 
 #[test]
 fn others_go_on_while_a_sync_is_held(rt: HostRuntime) -> Result<(), Fail> {
-    let second = Moment::new(1000).ok_or("moment")?;
+    let second = moment_of(1000)?;
     let steps = [
         (17, Step::SendAndLinger(Action::Clock(second))),
         (0, Step::AwaitGate),
@@ -178,6 +179,6 @@ fn others_go_on_while_a_sync_is_held(rt: HostRuntime) -> Result<(), Fail> {
         slots: [0, 17],
     };
     let found = play(&rt, rt.alloc(), &row).ok_or("run")?;
-    assert_eq!(rt; found, whole(1));
+    same(found, whole(1))?;
     Ok(())
 }

@@ -5,6 +5,7 @@ use crate::course::{Left, run_on};
 use crate::devices::formatted;
 use crate::folds::{Accepted, reopened};
 use crate::notes::Notes;
+use alm_common_tests::{holds_at, same};
 use alm_desk::worked_table;
 use alm_disk::{Free, MemDisk};
 use alm_keeper::Keeper;
@@ -105,10 +106,10 @@ fn eighteen_sources_are_answered_in_order_and_all_is_kept(rt: HostRuntime) -> Re
     let unseen = notes.unseen.load(Ordering::SeqCst);
     let shown = notes.shown.load(Ordering::SeqCst);
     drop(notes);
-    assert_eq!(rt; found.storage, Storage::Whole);
-    assert_eq!(rt; (wrong, unseen, shown), (0, 0, 360_000));
+    same(found.storage, Storage::Whole)?;
+    same((wrong, unseen, shown), (0, 0, 360_000))?;
     assert!(rt; found.is_answered);
-    assert!(rt; found.count > EACH, "{} accepted", found.count);
-    assert_eq!(rt; found.reopened, Some((found.count, true)));
+    holds_at(found.count, found.count > EACH)?;
+    same(found.reopened, Some((found.count, true)))?;
     Ok(())
 }

@@ -1,6 +1,7 @@
 //! Batches of each size are shown at once: no contract says when memory is refused, so none says that a publish isn't.
 
 use crate::refused::{Course, course};
+use alm_common_tests::same_at;
 use alm_flush::Publishes;
 use std::test::Fail;
 
@@ -19,11 +20,11 @@ fn at_once(size: u16) -> Course {
 #[test]
 fn a_batch_of_each_size_is_shown_at_once(rt: HostRuntime) -> Result<(), Fail> {
     for size in 1..=256 {
-        assert_eq!(rt;
+        same_at(
+            size,
             course(&rt, rt.alloc(), LARGE, size),
             Some(at_once(size)),
-            "{size} actions"
-        );
+        )?;
     }
     Ok(())
 }

@@ -12,6 +12,7 @@ use crate::notes::Notes;
 use crate::player::Player;
 use crate::script::Step;
 use alm_board::{Board, Publish, Voucher};
+use alm_common_tests::same_at;
 use alm_desk::worked_table;
 use alm_disk::{Free, Hold, MemDisk};
 use alm_keeper::{Keeper, Phase};
@@ -172,7 +173,7 @@ fn storage_is_stopped_behind_a_thousand_refused_publishes(rt: HostRuntime) -> Re
     ] {
         let disk = formatted(rt.alloc(), &table).ok_or("formatted")?;
         let left = left_over::<Keeper<MemDisk>, _>(&rt, rt.alloc(), disk, refusals);
-        assert_eq!(rt; left, Some((storage, cause, 1)), "{refusals} refusals");
+        same_at(refusals, left, Some((storage, cause, 1)))?;
     }
     Ok(())
 }

@@ -1,6 +1,7 @@
 //! A source gets no turn after all threads are to stop.
 
 use alm_board::{Look, PlainBoard, PlainTold, Seen};
+use alm_common_tests::same;
 use alm_desk::worked_table;
 use alm_model::{Alarms, PlainPlant};
 use alm_rings::{Console, Told, open_slot};
@@ -61,8 +62,8 @@ fn turns<R: Wait>(rt: &R, alloc: Global, stops_in: u64) -> Option<u64> {
 #[test]
 fn a_source_gets_no_turn_behind_a_stop(rt: HostRuntime) -> Result<(), Fail> {
     for stops_in in 0..=TURNS {
-        assert_eq!(rt; turns(&rt, rt.alloc(), stops_in), Some(stops_in));
+        same(turns(&rt, rt.alloc(), stops_in), Some(stops_in))?;
     }
-    assert_eq!(rt; turns(&rt, rt.alloc(), u64::MAX), Some(TURNS));
+    same(turns(&rt, rt.alloc(), u64::MAX), Some(TURNS))?;
     Ok(())
 }

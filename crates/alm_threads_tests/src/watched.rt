@@ -8,6 +8,7 @@ ghost use Rattle.alm_moments.specs.Naming.{IsNamedAfter};
 use crate::all_slots::all_slots;
 use crate::devices::formatted;
 use alm_board::Look;
+use alm_common_tests::same;
 use alm_desk::worked_table;
 use alm_disk::{Hold, MemDisk};
 use alm_keeper::{Keeper, Phase};
@@ -134,8 +135,8 @@ fn a_hold_is_told_of_each_look_that_was_answered(rt: HostRuntime) -> Result<(), 
         Some(Ok(0)),
         Some(Err(Refusal::Stopped)),
     ];
-    assert_eq!(rt; answers, Some(wanted));
-    assert_eq!(rt; hold.looks.load(Ordering::SeqCst), 1);
-    assert_eq!(rt; hold.last.load(Ordering::SeqCst), SLOT as u64);
+    same(answers, Some(wanted))?;
+    same(hold.looks.load(Ordering::SeqCst), 1)?;
+    same(hold.last.load(Ordering::SeqCst), SLOT as u64)?;
     Ok(())
 }

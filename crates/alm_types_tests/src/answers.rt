@@ -1,5 +1,6 @@
 //! The room of an answer.
 
+use alm_common_tests::holds_at;
 use alm_types::Answer;
 use std::test::Fail;
 
@@ -11,10 +12,7 @@ fn an_answer_takes_room_for_each_list_and_no_more_than_twice_it(
         let mut answer = Answer::new(rt.alloc());
         answer.reserve(alarms)?;
         let room = answer.list.capacity();
-        assert!(rt;
-            room <= alarms.max(4).saturating_mul(2),
-            "{room} for {alarms}"
-        );
+        holds_at((room, alarms), room <= alarms.max(4).saturating_mul(2))?;
     }
     Ok(())
 }

@@ -1,6 +1,8 @@
 //! Attributes: the fault of each value beyond its limit, and which of several is reported.
 
+use alm_common_tests::same_at;
 use alm_types::{Attr, AttrFault, Kind, Settings};
+use std::test::Fail;
 
 /// An alarm that is in all limits.
 const GOOD: Settings = Settings {
@@ -27,11 +29,12 @@ const SETPOINTS: [(i64, Option<AttrFault>); 4] = [
 ];
 
 #[test]
-fn setpoints(rt: HostRuntime) {
+fn setpoints() -> Result<(), Fail> {
     for (setpoint, wanted) in SETPOINTS {
         let settings = Settings { setpoint, ..GOOD };
-        assert_eq!(rt; fault(settings), wanted, "at {setpoint}");
+        same_at(setpoint, fault(settings), wanted)?;
     }
+    Ok(())
 }
 
 /// Deadbands of each kind, and their faults.
@@ -46,15 +49,16 @@ const DEADBANDS: [(Kind, u64, Option<AttrFault>); 7] = [
 ];
 
 #[test]
-fn deadbands_by_kind(rt: HostRuntime) {
+fn deadbands_by_kind() -> Result<(), Fail> {
     for (kind, deadband, wanted) in DEADBANDS {
         let settings = Settings {
             kind,
             deadband,
             ..GOOD
         };
-        assert_eq!(rt; fault(settings), wanted, "at {deadband}");
+        same_at(deadband, fault(settings), wanted)?;
     }
+    Ok(())
 }
 
 /// Priorities and areas, and their faults.
@@ -67,15 +71,16 @@ const PRIORITIES: [(u8, u8, Option<AttrFault>); 5] = [
 ];
 
 #[test]
-fn priorities_and_areas(rt: HostRuntime) {
+fn priorities_and_areas() -> Result<(), Fail> {
     for (priority, area, wanted) in PRIORITIES {
         let settings = Settings {
             priority,
             area,
             ..GOOD
         };
-        assert_eq!(rt; fault(settings), wanted, "at {priority}, {area}");
+        same_at((priority, area), fault(settings), wanted)?;
     }
+    Ok(())
 }
 
 /// The longest shelvings, and their faults.
@@ -86,11 +91,12 @@ const SHELVINGS: [(u32, Option<AttrFault>); 3] = [
 ];
 
 #[test]
-fn shelvings(rt: HostRuntime) {
+fn shelvings() -> Result<(), Fail> {
     for (max_shelve, wanted) in SHELVINGS {
         let settings = Settings { max_shelve, ..GOOD };
-        assert_eq!(rt; fault(settings), wanted, "at {max_shelve}");
+        same_at(max_shelve, fault(settings), wanted)?;
     }
+    Ok(())
 }
 
 /// Tags, and the fault of each.
@@ -115,15 +121,16 @@ const TEXTS: [(&[u8], Option<AttrFault>); 6] = [
 ];
 
 #[test]
-fn tags_and_texts_at_their_limits(rt: HostRuntime) {
+fn tags_and_texts_at_their_limits() -> Result<(), Fail> {
     for (tag, wanted) in TAGS {
         let fault = Attr::new(GOOD, tag, b"").err();
-        assert_eq!(rt; fault, wanted, "tag of {}", tag.len());
+        same_at(tag.len(), fault, wanted)?;
     }
     for (text, wanted) in TEXTS {
         let fault = Attr::new(GOOD, b"T", text).err();
-        assert_eq!(rt; fault, wanted, "text of {}", text.len());
+        same_at(text.len(), fault, wanted)?;
     }
+    Ok(())
 }
 
 /// Settings that break each of their limits.
@@ -184,9 +191,10 @@ const FAULTS: [(Settings, &[u8], &[u8], Option<AttrFault>); 8] = [
 ];
 
 #[test]
-fn the_first_of_several_faults(rt: HostRuntime) {
+fn the_first_of_several_faults() -> Result<(), Fail> {
     for (settings, tag, text, wanted) in FAULTS {
         let fault = Attr::new(settings, tag, text).err();
-        assert_eq!(rt; fault, wanted, "before {wanted:?}");
+        same_at(wanted, fault, wanted)?;
     }
+    Ok(())
 }

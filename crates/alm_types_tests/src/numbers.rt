@@ -1,6 +1,8 @@
 //! Moments, readings, slots and refusals.
 
+use alm_common_tests::{same, same_at};
 use alm_types::{Moment, Reading, Refusal, Role, Slot};
+use std::test::Fail;
 
 /// Seconds, and whether they are a moment.
 const MOMENTS: [(u64, bool); 5] = [
@@ -12,12 +14,13 @@ const MOMENTS: [(u64, bool); 5] = [
 ];
 
 #[test]
-fn moments_below_2_to_the_40(rt: HostRuntime) {
+fn moments_below_2_to_the_40() -> Result<(), Fail> {
     for (seconds, good) in MOMENTS {
         let moment = Moment::new(seconds);
-        assert_eq!(rt; moment.is_some(), good, "at {seconds}");
-        assert_eq!(rt; moment.map_or(seconds, |m| m.seconds()), seconds);
+        same_at(seconds, moment.is_some(), good)?;
+        same(moment.map_or(seconds, |m| m.seconds()), seconds)?;
     }
+    Ok(())
 }
 
 /// Numbers, and whether they are a reading.
@@ -32,12 +35,13 @@ const READINGS: [(i64, bool); 7] = [
 ];
 
 #[test]
-fn readings_to_10_to_the_12(rt: HostRuntime) {
+fn readings_to_10_to_the_12() -> Result<(), Fail> {
     for (value, good) in READINGS {
         let reading = Reading::new(value);
-        assert_eq!(rt; reading.is_some(), good, "at {value}");
-        assert_eq!(rt; reading.map_or(value, |r| r.value()), value);
+        same_at(value, reading.is_some(), good)?;
+        same(reading.map_or(value, |r| r.value()), value)?;
     }
+    Ok(())
 }
 
 /// Numbers, and the role of a slot of each.
@@ -51,14 +55,11 @@ const SLOTS: [(u8, Option<Role>); 6] = [
 ];
 
 #[test]
-fn eighteen_slots(rt: HostRuntime) {
+fn eighteen_slots() -> Result<(), Fail> {
     for (number, role) in SLOTS {
-        assert_eq!(rt;
-            Slot::new(number).map(|slot| slot.role()),
-            role,
-            "at {number}"
-        );
+        same_at(number, Slot::new(number).map(|slot| slot.role()), role)?;
     }
+    Ok(())
 }
 
 /// Refusals, and the number of each.
@@ -86,8 +87,9 @@ const REFUSALS: [(Refusal, u8); 20] = [
 ];
 
 #[test]
-fn refusals_have_their_numbers(rt: HostRuntime) {
+fn refusals_have_their_numbers() -> Result<(), Fail> {
     for (refusal, number) in REFUSALS {
-        assert_eq!(rt; refusal.number(), number);
+        same(refusal.number(), number)?;
     }
+    Ok(())
 }

@@ -1,8 +1,8 @@
 //! Tables and batches.
 
+use alm_common_tests::{same, same_at, slot_of};
 use alm_types::{
-    Action, AlarmId, Attr, Batch, Entry, Kind, Refusal, Settings, Slot, Table, TableFault, Verdict,
-    Want,
+    Action, AlarmId, Attr, Batch, Entry, Kind, Refusal, Settings, Table, TableFault, Verdict, Want,
 };
 use std::alloc::Global;
 use std::test::Fail;
@@ -43,7 +43,7 @@ const TABLES: [(usize, u8, u8, Option<TableFault>); 8] = [
 fn tables_at_their_limits(rt: HostRuntime) -> Result<(), Fail> {
     for (rows, area, areas, wanted) in TABLES {
         let fault = fault(rt.alloc(), rows, area, areas)?;
-        assert_eq!(rt; fault, wanted, "{rows} rows, {areas} areas");
+        same_at((rows, areas), fault, wanted)?;
     }
     Ok(())
 }
@@ -61,7 +61,7 @@ fn alarms_of(alloc: Global, areas: &[u8]) -> Result<Vec<Attr>, Fail> {
 fn the_first_alarm_in_no_area(rt: HostRuntime) -> Result<(), Fail> {
     let alarms = alarms_of(rt.alloc(), &[0, 1, 2, 0, 7])?;
     let fault = Table::new(alarms, 2).err();
-    assert_eq!(rt; fault, Some(TableFault::AreaOf(2)));
+    same(fault, Some(TableFault::AreaOf(2)))?;
     Ok(())
 }
 
@@ -90,20 +90,20 @@ fn a_table_gives_its_rows(rt: HostRuntime) -> Result<(), Fail> {
 #[test]
 fn a_batch_of_256(rt: HostRuntime) -> Result<(), Fail> {
     let mut batch = Batch::new(rt.alloc())?;
-    assert_eq!(rt; batch.first(), 1);
+    same(batch.first(), 1)?;
     for serial in 1..=256_u64 {
         assert!(rt; !batch.is_full(), "before {serial}");
         batch.push(Entry {
-            slot: Slot::new(3).ok_or("slot")?,
+            slot: slot_of(3)?,
             serial,
             want: Want::Do(Action::Ack(AlarmId(0))),
             verdict: Verdict::Refused(Refusal::NotUnacknowledged, 0),
         });
     }
     assert!(rt; batch.is_full());
-    assert_eq!(rt; batch.entries().len(), 256);
+    same(batch.entries().len(), 256)?;
     batch.restart(7);
-    assert_eq!(rt; batch.first(), 7);
+    same(batch.first(), 7)?;
     assert!(rt; batch.entries().is_empty());
     Ok(())
 }

@@ -1,6 +1,7 @@
 //! Bells that one thread left are rung by the next one that checks.
 
 use crate::counter::Counter;
+use alm_common_tests::same;
 use alm_types::Slot;
 use alm_wake::Bells;
 use std::alloc::Global;
@@ -37,10 +38,10 @@ fn rings(alloc: Global, left: &[u8]) -> Option<[u64; 3]> {
 #[test]
 fn a_bell_that_was_left_is_rung_once(rt: HostRuntime) -> Result<(), Fail> {
     let alloc = rt.alloc();
-    assert_eq!(rt; rings(alloc, &[]), Some([0, 0, 0]));
-    assert_eq!(rt; rings(alloc, &[5]), Some([0, 1, 0]));
-    assert_eq!(rt; rings(alloc, &[17]), Some([0, 0, 1]));
-    assert_eq!(rt; rings(alloc, &[17, 5, 17]), Some([0, 1, 1]));
-    assert_eq!(rt; rings(alloc, &[0, 4, 16]), Some([0, 0, 0]));
+    same(rings(alloc, &[]), Some([0, 0, 0]))?;
+    same(rings(alloc, &[5]), Some([0, 1, 0]))?;
+    same(rings(alloc, &[17]), Some([0, 0, 1]))?;
+    same(rings(alloc, &[17, 5, 17]), Some([0, 1, 1]))?;
+    same(rings(alloc, &[0, 4, 16]), Some([0, 0, 0]))?;
     Ok(())
 }

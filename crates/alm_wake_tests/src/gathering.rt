@@ -1,7 +1,7 @@
 //! An open batch waits for the slots that the last one answered, for as long as it may.
 
 use crate::counter::flags_of;
-use alm_types::Slot;
+use alm_common_tests::{holds_at, same, slot_of};
 use alm_wake::{Bell, FlusherPace, Sealing, SequencerPace, ThreadBell};
 use std::sync::Wait;
 use std::test::Fail;
@@ -28,21 +28,21 @@ fn a_batch_that_is_back_lets_the_next_wait_for_its_slots(rt: HostRuntime) -> Res
     let (flags, _counts) = flags_of(rt.alloc())?;
     let mut sequencer = SequencerPace::new(&flags);
     let flusher = FlusherPace::new(&flags);
-    sequencer.join(Slot::new(3).ok_or("slot")?);
+    sequencer.join(slot_of(3)?);
     sequencer.seal(&rt);
-    assert_eq!(rt; sequencer.sealing(&rt, false), Sealing::Later);
+    same(sequencer.sealing(&rt, false), Sealing::Later)?;
     sleep(&rt);
     flusher.empty();
     let Sealing::After(pause) = sequencer.sealing(&rt, false) else {
         return Err("no pause".into());
     };
-    assert_eq!(rt; pause.micros(), PAUSE);
+    same(pause.micros(), PAUSE)?;
     let began = Instant::now(&rt).map_err(|_| "clock")?;
     sequencer.await_slots(&rt);
     sequencer.gather(&rt, pause, false);
     let waited = began.elapsed(&rt).map_err(|_| "clock")?.as_micros();
-    assert!(rt; waited >= WAITED, "{waited} us");
-    assert_eq!(rt; sequencer.sealing(&rt, false), Sealing::Now);
+    holds_at(waited, waited >= WAITED)?;
+    same(sequencer.sealing(&rt, false), Sealing::Now)?;
     Ok(())
 }
 
@@ -50,8 +50,8 @@ fn a_batch_that_is_back_lets_the_next_wait_for_its_slots(rt: HostRuntime) -> Res
 fn a_full_batch_waits_for_nobody(rt: HostRuntime) -> Result<(), Fail> {
     let (flags, _counts) = flags_of(rt.alloc())?;
     let mut sequencer = SequencerPace::new(&flags);
-    sequencer.join(Slot::new(3).ok_or("slot")?);
+    sequencer.join(slot_of(3)?);
     sequencer.seal(&rt);
-    assert_eq!(rt; sequencer.sealing(&rt, true), Sealing::Now);
+    same(sequencer.sealing(&rt, true), Sealing::Now)?;
     Ok(())
 }

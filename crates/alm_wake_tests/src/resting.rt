@@ -1,7 +1,7 @@
 //! An open checkpoint continues while nobody asks, and not while a batch is about to come.
 
 use crate::counter::flags_of;
-use alm_types::Slot;
+use alm_common_tests::slot_of;
 use alm_wake::{FlusherPace, SequencerPace};
 use std::test::Fail;
 
@@ -25,7 +25,7 @@ fn a_checkpoint_continues_once_the_thread_has_slept(rt: HostRuntime) -> Result<(
 #[test]
 fn no_piece_goes_out_before_a_batch_that_is_about_to_come(rt: HostRuntime) -> Result<(), Fail> {
     let (flags, _counts) = flags_of(rt.alloc())?;
-    let slot = Slot::new(0).ok_or("slot")?;
+    let slot = slot_of(0)?;
     let mut sequencer = SequencerPace::new(&flags);
     let mut pace = FlusherPace::new(&flags);
     for _ in 0..RESTS {

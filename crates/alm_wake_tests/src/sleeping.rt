@@ -1,7 +1,7 @@
 //! A thread without work sleeps, and a ring ends its sleep.
 
 use crate::counter::flags_of;
-use alm_types::Slot;
+use alm_common_tests::{holds_at, slot_of};
 use alm_wake::{Bell, FlusherPace, SequencerPace, ThreadBell};
 use std::alloc::Global;
 use std::sync::Wait;
@@ -47,7 +47,7 @@ fn waited_for_a_slot<R: Wait + Clock>(rt: &R, alloc: Global) -> Result<u128, Fai
         pace.wait(rt);
     }
     let began = Instant::now(rt).map_err(|_| "clock")?;
-    flags.send(Slot::new(3).ok_or("slot")?);
+    flags.send(slot_of(3)?);
     pace.wait(rt);
     pace.wait(rt);
     millis_since(rt, began)
@@ -79,7 +79,7 @@ fn a_thread_sleeps_until_its_bell_is_rung(rt: HostRuntime) -> Result<(), Fail> {
     for _ in 0..TRIES {
         least = least.min(waited(&rt, true)?);
     }
-    assert!(rt; least <= WOKEN, "{least} ms");
+    holds_at(least, least <= WOKEN)?;
     Ok(())
 }
 
@@ -101,7 +101,7 @@ fn a_slot_that_sends_wakes_the_sequencers_thread(rt: HostRuntime) -> Result<(), 
     for _ in 0..TRIES {
         least = least.min(waited_for_a_slot(&rt, rt.alloc())?);
     }
-    assert!(rt; least <= WOKEN, "{least} ms");
+    holds_at(least, least <= WOKEN)?;
     Ok(())
 }
 
@@ -110,9 +110,9 @@ fn the_flushers_thread_sleeps_until_a_batch_is_sealed(rt: HostRuntime) -> Result
     let mut least = u128::MAX;
     for _ in 0..TRIES {
         let (woken, slept) = waited_for_a_batch(&rt, rt.alloc())?;
-        assert!(rt; slept >= ASLEEP, "{slept} ms");
+        holds_at(slept, slept >= ASLEEP)?;
         least = least.min(woken);
     }
-    assert!(rt; least <= WOKEN, "{least} ms");
+    holds_at(least, least <= WOKEN)?;
     Ok(())
 }

@@ -1,13 +1,14 @@
 //! Whoever has a reply is woken: immediately, after its batch, or with the next one.
 
 use crate::counter::{Counter, flags_of};
+use alm_common_tests::{same, slot_of};
 use alm_types::Slot;
 use alm_wake::{FlusherPace, SequencerPace};
 use std::test::Fail;
 use std::time::Clock;
 
 fn slot(number: u8) -> Result<Slot, Fail> {
-    Ok(Slot::new(number).ok_or("slot")?)
+    slot_of(number)
 }
 
 /// Seals this number of batches, and fetches the first.
@@ -31,12 +32,12 @@ fn a_reply_wakes_its_slot_where_no_batch_waits(rt: HostRuntime) -> Result<(), Fa
     let mut flusher = FlusherPace::new(&flags);
     seal(&rt, &mut sequencer, &mut flusher, 1);
     flusher.release(slot(5)?);
-    assert_eq!(rt; (counts.of(slot(5)?), counts.all()), (1, 1));
+    same((counts.of(slot(5)?), counts.all()), (1, 1))?;
     flusher.release(slot(17)?);
-    assert_eq!(rt; (counts.of(slot(17)?), counts.all()), (1, 2));
+    same((counts.of(slot(17)?), counts.all()), (1, 2))?;
     flusher.answer();
     assert!(rt; !sequencer.is_stopped());
-    assert_eq!(rt; counts.all(), 2);
+    same(counts.all(), 2)?;
     Ok(())
 }
 
@@ -49,14 +50,14 @@ fn a_batch_behind_it_delays_the_wakes_to_its_end(rt: HostRuntime) -> Result<(), 
     flusher.release(slot(0)?);
     flusher.release(slot(3)?);
     flusher.release(slot(3)?);
-    assert_eq!(rt; counts.all(), 0);
+    same(counts.all(), 0)?;
     flusher.answer();
-    assert_eq!(rt; counts.all(), 0);
+    same(counts.all(), 0)?;
     assert!(rt; !sequencer.is_stopped());
-    assert_eq!(rt;
+    same(
         (counts.of(slot(0)?), counts.of(slot(3)?), counts.all()),
-        (1, 1, 2)
-    );
+        (1, 1, 2),
+    )?;
     Ok(())
 }
 
@@ -76,7 +77,7 @@ fn a_slot_with_many_replies_sleeps_through_one_batch_and_not_two(
     }
     flusher.answer();
     assert!(rt; !sequencer.is_stopped());
-    assert_eq!(rt; (counts.of(slot(2)?), counts.of(slot(4)?)), (0, 1));
+    same((counts.of(slot(2)?), counts.of(slot(4)?)), (0, 1))?;
     flusher.fetch();
     flusher.publish();
     for _ in 0..8 {
@@ -84,7 +85,7 @@ fn a_slot_with_many_replies_sleeps_through_one_batch_and_not_two(
     }
     flusher.answer();
     assert!(rt; !sequencer.is_stopped());
-    assert_eq!(rt; (counts.of(slot(2)?), counts.of(slot(4)?)), (1, 1));
+    same((counts.of(slot(2)?), counts.of(slot(4)?)), (1, 1))?;
     Ok(())
 }
 
@@ -92,7 +93,7 @@ fn a_slot_with_many_replies_sleeps_through_one_batch_and_not_two(
 fn a_slot_without_room_for_its_receipt_is_woken(rt: HostRuntime) -> Result<(), Fail> {
     let (flags, counts) = flags_of(rt.alloc())?;
     FlusherPace::new(&flags).find_full(slot(9)?);
-    assert_eq!(rt; (counts.of(slot(9)?), counts.all()), (1, 1));
+    same((counts.of(slot(9)?), counts.all()), (1, 1))?;
     Ok(())
 }
 
@@ -102,10 +103,10 @@ fn a_stop_wakes_all(rt: HostRuntime) -> Result<(), Fail> {
     let sequencer = SequencerPace::new(&flags);
     assert!(rt; !sequencer.is_stopped());
     flags.stop_all();
-    assert_eq!(rt;
+    same(
         (counts.of(slot(0)?), counts.of(slot(17)?), counts.all()),
-        (1, 1, 18)
-    );
+        (1, 1, 18),
+    )?;
     assert!(rt; sequencer.is_stopped());
     Ok(())
 }
